@@ -1,0 +1,6 @@
+pub mod HandleKinds
+pub mod Lists
+pub mod Numbers
+pub mod Nesting
+pub mod Trees
+pub mod Validity

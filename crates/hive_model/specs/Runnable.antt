@@ -1,0 +1,20 @@
+-- What a job must have for its events to have a computable result: each expression is the nodes of a tree, and the number of
+-- each output of an algorithm fits its place. Every valid job has it.
+use Rattle.std.specs.Prelude.{◌≤◌, List, length, IsSome, MatchOption}
+use Rattle.std.specs.List.{AllByRecursion}
+use Rattle.hive_model.specs.Algorithm.{Algorithm}
+use Rattle.hive_model.specs.Job.{Job}
+use Rattle.hive_model.specs.Tree.{tree_of}
+use Rattle.hive_model.specs.declared.algorithm.Output.{Output}
+use Rattle.hive_model.specs.declared.expr.Node.{Node}
+
+abbrev pub HasTree : List Node → Type 0
+HasTree nodes = IsSome (tree_of nodes)
+
+pub record CanExecute (a : Algorithm) : Type 0 where
+  pub few : length a.outputs ≤ 1024
+  pub outputs : AllByRecursion (λ (o : Output). HasTree o.value) a.outputs
+  pub filter : MatchOption a.filter (Unit {0}) HasTree
+
+abbrev pub IsRunnable : Job → Type 0
+IsRunnable job = AllByRecursion CanExecute job.algorithms

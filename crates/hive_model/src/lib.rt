@@ -1,0 +1,50 @@
+//! The types that every part of `hive` speaks, and the definitions of what an event means.
+//!
+//! A [`Job`] is what an options text describes: raw handles, algorithms with their expressions, and a
+//! forest of decision nodes. An [`EventRecord`] is one event's input, a [`Store`] the event store, and
+//! an [`EventResult`] what an event came to. The layers above see each of these as plain lists and
+//! records (`specs/`), never as vectors with room to spare.
+//!
+//! `specs/` holds the meaning of an event, one module for each concept, in the order of its `Lib.antt`;
+//! docs/PROCESSING.md tells the same rules in words.
+#![tactic(auto)]
+
+mod algorithm;
+mod decision;
+mod duplicate;
+mod entry;
+mod expr;
+mod expr_refusal;
+mod ints;
+mod job;
+mod many;
+mod named;
+mod outcome;
+mod product;
+mod record;
+mod result;
+mod sequence;
+mod store;
+#[cfg(test)]
+mod tests;
+mod text;
+mod token;
+
+pub use algorithm::{Algorithm, Output, Raw, Resource};
+pub use decision::{Decision, End, EventStatus};
+pub use duplicate::Duplicate;
+pub use entry::Entry;
+pub use expr::{Binary, Expr, Function, Node};
+pub use expr_refusal::ExprRefusal;
+pub use ints::Ints;
+pub use job::Job;
+pub use many::Many;
+pub use named::Named;
+pub use outcome::{Fault, Outcome, Place};
+pub use product::{Kind, Product};
+pub use record::EventRecord;
+pub use result::EventResult;
+pub use sequence::{Member, Sequence};
+pub use store::Store;
+pub use text::Text;
+pub use token::{Form, Level, Symbol, Token};
