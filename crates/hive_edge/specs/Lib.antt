@@ -1,0 +1,10 @@
+pub mod Fault
+pub mod Source
+pub mod Sink
+pub mod Shelf
+pub mod CleanSource
+pub mod CleanSink
+pub mod Failing
+pub mod MemSource
+pub mod MemSink
+pub mod MemShelf

@@ -1,0 +1,5 @@
+//! The one error of a source and a sink.
+
+/// The outside failed: the count of faults of what was called rose, or stands at its last value.
+#[derive(Clone, Copy, Debug, PartialEq, Eq)]
+pub struct Failed;
