@@ -1,0 +1,11 @@
+pub mod TokenLists
+pub mod Readings
+pub mod Assembling
+pub mod Phases
+pub mod NodeLists
+pub mod KindsRead
+pub mod Lexing
+pub mod Rows
+pub mod ReadBack
+pub mod RulesRead
+pub mod ReadRules

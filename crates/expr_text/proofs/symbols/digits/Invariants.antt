@@ -1,0 +1,8 @@
+-- The bytes so far belong to the front.
+use Rattle.std.proofs.Common.{◌≡◌, ◌+◌, drop}
+use Rattle.std.specs.Char.{is_ascii_digit}
+use Rattle.std.specs.List.{prefix_len}
+use Rattle.expr_text.proofs.symbols.digits.Given as goal
+
+abbrev pub invariant-loop-count : goal.invariant-loop-count
+invariant-loop-count l = l.count + prefix_len is_ascii_digit (drop l.count l.bytes) ≡ prefix_len is_ascii_digit l.bytes

@@ -1,0 +1,5 @@
+pub mod Gives
+pub mod Parts
+pub mod Assembly
+pub mod Printed
+pub mod Known
