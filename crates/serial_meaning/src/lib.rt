@@ -1,0 +1,21 @@
+//! The meaning of one event by itself: the plain program that the scheduler's results are compared with.
+//!
+//! [`closure`] computes the result of an event by the definitions of `hive_model`, round after round, for
+//! every job whose expressions are trees. It is written for reading and not for speed: it evaluates
+//! expressions and decisions by recursion, anew each round.
+#![tactic(auto)]
+
+mod call;
+mod decision;
+mod execution;
+pub mod laws;
+mod meaning;
+mod number;
+mod reached;
+mod round;
+mod store;
+#[cfg(test)]
+mod tests;
+mod value;
+
+pub use meaning::closure;
