@@ -1,0 +1,13 @@
+use Rattle.std.proofs.Common.{◌≡◌, ◌++◌, List, ℕ, Bor, drop, map}
+use Rattle.std.specs.List.{flat_map}
+use Rattle.hive_model.specs.declared.algorithm.Raw.{Raw}
+use Rattle.hive_model.specs.Valid.{output_names, handle_names}
+use Rattle.hive_top.proofs.report.names_of.Given as goal
+
+abbrev pub invariant-loop-raw : goal.invariant-loop-raw
+invariant-loop-raw l =
+    map (λ (name : Bor (List ℕ)). name.now) l.names.items ++ map (λ (r : Raw). r.name) (drop l.raw-index l.raw-items) ≡ map (λ (r : Raw). r.name) l.job.raws
+
+abbrev pub invariant-loop-algorithm : goal.invariant-loop-algorithm
+invariant-loop-algorithm l =
+    map (λ (name : Bor (List ℕ)). name.now) l.names.items ++ flat_map output_names (drop l.algorithm-index l.algorithm-items) ≡ handle_names l.job

@@ -1,0 +1,25 @@
+//! The calls that a program makes: from the words of its command line, its files and its input to the
+//! bytes that it writes and the status with which it ends.
+//!
+//! [`hive_plain`] is the whole program but for the real files and streams. It is generic over the
+//! traits of `hive_edge`, so a test hands it files and streams in memory.
+#![tactic(auto)]
+
+mod counts;
+mod input;
+mod job;
+mod names;
+mod numeral;
+mod records;
+mod reply;
+mod report;
+mod run;
+mod status;
+#[cfg(test)]
+mod tests;
+mod thin;
+mod top;
+mod words;
+
+pub use status::Status;
+pub use top::{Ran, hive_plain};
