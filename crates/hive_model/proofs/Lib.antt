@@ -4,3 +4,5 @@ pub mod Numbers
 pub mod Nesting
 pub mod Trees
 pub mod Validity
+pub mod Elementwise
+pub mod Executions

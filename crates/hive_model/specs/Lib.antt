@@ -5,6 +5,7 @@ pub mod Job
 pub mod EventRecord
 pub mod EventResult
 pub mod Store
+pub mod Scratch
 pub mod Handles
 pub mod Tree
 pub mod Number

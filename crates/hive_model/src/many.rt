@@ -104,6 +104,16 @@ impl<T> Many<T> {
     }
 }
 
+impl<T: Drop> Many<T> {
+    /// Drops every element, and keeps the room. It takes no memory.
+    pub fn clear(&mut self)
+        ensures items { self.new.items ≡ [] }
+        ensures room { length self.new.items + self.new.spare ≡ length self.old.items + self.old.spare }
+    {
+        self.0.clear();
+    }
+}
+
 impl<T: Duplicate + Drop> Many<T> {
     /// An equal list of its own. The only error is want of memory.
     pub fn copy(&self, alloc: Global) -> Result<Many<T>, AllocError>

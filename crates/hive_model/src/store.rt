@@ -53,6 +53,7 @@ impl Store {
         let place = usize::from(handle);
         self.0[place] = Some(product);
     }
+
     /// The product in a place; `None` exactly where the place is empty.
     pub fn get(&self, handle: u16) -> Option<&Product>
         requires { handle < length self.now }
@@ -75,14 +76,14 @@ impl Store {
         }
     }
 
-    /// One more owner of the product in a place, or `None` where it is empty. The only error is want of
-    /// memory.
+    /// One more owner of the product in a place, or `None` where it is empty or there is none. The only
+    /// error is want of memory.
     pub fn share(&self, handle: u16) -> Result<Option<Arc<Product>>, AllocError>
-        requires { handle < length self.now }
         ensures { IfOk result (λ it. option_map arc_value it ≡ option_flatten (slice_get self.now handle)) }
     {
-        match &self.0[usize::from(handle)] {
-            Some(product) => Ok(Some(Arc::try_clone(product)?)),
+        match self.0.get(usize::from(handle)) {
+            Some(Some(product)) => Ok(Some(Arc::try_clone(product)?)),
+            Some(None) => Ok(None),
             None => Ok(None),
         }
     }

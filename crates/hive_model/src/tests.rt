@@ -1,5 +1,5 @@
 //! Each public call once, and that what is shared may cross threads.
-ghost use Rattle.std.specs.Prelude.{◌≤◌, length};
+ghost use Rattle.std.specs.Prelude.{◌≡◌, ◌≤◌, IfOk, length};
 
 use super::*;
 use std::alloc::{AllocError, Global};
@@ -27,6 +27,8 @@ fn a_list_grows_shrinks_and_copies(rt: HostRuntime) -> Result<(), Fail> {
     let mut empty: Many<u16> = Many::new(rt.alloc());
     assert_eq!(rt; empty.pop(), None);
     assert!(rt; Many::from_vec(copy.into_vec()) == list);
+    list.clear();
+    assert_eq!(rt; list.pop(), None);
     Ok(())
 }
 
@@ -73,7 +75,9 @@ fn plain_algorithm(alloc: Global) -> Result<Algorithm, AllocError> {
     })
 }
 
-fn plain_job(alloc: Global) -> Result<Job, AllocError> {
+fn plain_job(alloc: Global) -> Result<Job, AllocError>
+    ensures { IfOk result (λ it. length it.algorithms ≡ 1) }
+{
     let raws = Vec::from_array(
         alloc,
         [Raw {
@@ -123,6 +127,38 @@ fn a_store_keeps_what_is_put(rt: HostRuntime) -> Result<(), Fail> {
     assert!(rt; store.share(1)?.is_some());
     assert!(rt; store.product_at(2) == None);
     assert_eq!(rt; store.len(), 2);
+    Ok(())
+}
+
+#[test]
+fn operators_and_functions_apply(rt: HostRuntime) -> Result<(), Fail> {
+    let seven = Product::Num(7);
+    let two = Product::Num(2);
+    let hits = numbers(rt.alloc(), &[3, 4])?;
+    assert!(rt; Binary::Rem.apply(&seven, &two) == Ok(Product::Num(1)));
+    assert!(rt; seven.negated() == Ok(Product::Num(-7)));
+    assert!(rt; Function::Sum.apply(&hits) == Ok(Product::Num(7)));
+    let scaled = Function::Scale.apply_both(rt.alloc(), &hits, &two)?;
+    assert!(rt; scaled == Ok(numbers(rt.alloc(), &[6, 8])?));
+    Ok(())
+}
+
+#[test]
+fn a_scratch_is_loaded_from_the_store(rt: HostRuntime) -> Result<(), Fail> {
+    let job = plain_job(rt.alloc())?;
+    let mut store = Store::with_room(rt.alloc(), 2)?;
+    let hits = numbers(rt.alloc(), &[3, 4])?;
+    store.put(0, Arc::new(rt.alloc(), hits)?);
+    let algorithm = plain_algorithm(rt.alloc())?;
+    let scratch = Scratch::new(rt.alloc(), &algorithm)?;
+    let mut lent = Lent {
+        algorithm: 0,
+        clone: Some(0),
+        scratch,
+    };
+    lent.load(&job, &store)?;
+    lent.load(&job, &store)?;
+    assert_eq!(rt; lent.scratch.inputs.as_slice().len(), 1);
     Ok(())
 }
 

@@ -5,12 +5,10 @@
 //! expressions and decisions by recursion, anew each round.
 #![tactic(auto)]
 
-mod call;
 mod decision;
 mod execution;
 pub mod laws;
 mod meaning;
-mod number;
 mod reached;
 mod round;
 mod store;

@@ -8,8 +8,6 @@ ghost use Rattle.hive_model.specs.Tree.{tree_of, tree_within};
 ghost use Rattle.hive_model.specs.Value.{value_of, and_then, negated, operated};
 ghost use Rattle.serial_meaning.specs.Evaluation.{bound, said, value_within};
 
-use crate::call::{call_one_of, call_two_of};
-use crate::number::{negated_of, operated_of};
 use hive_model::{Binary, Duplicate, Fault, Function, Node, Product};
 use std::alloc::{AllocError, Global};
 use std::sync::Arc;
@@ -64,7 +62,7 @@ fn product<'b>(found: &'b Found<'_>) -> Result<&'b Product, Fault>
 fn negate(operand: &Found<'_>) -> Result<Product, Fault>
     ensures { result ≡ and_then (said operand.now) negated }
 {
-    negated_of(product(operand)?)
+    product(operand)?.negated()
 }
 
 fn operate(operator: Binary, left: &Found<'_>, right: &Found<'_>) -> Result<Product, Fault>
@@ -72,13 +70,13 @@ fn operate(operator: Binary, left: &Found<'_>, right: &Found<'_>) -> Result<Prod
 {
     let left = product(left)?;
     let right = product(right)?;
-    operated_of(operator, left, right)
+    operator.apply(left, right)
 }
 
 fn call(function: Function, operand: &Found<'_>) -> Result<Product, Fault>
     ensures { result ≡ and_then (said operand.now) (call_one function) }
 {
-    call_one_of(function, product(operand)?)
+    function.apply(product(operand)?)
 }
 
 fn call_both(
@@ -93,7 +91,7 @@ fn call_both(
         Err(fault) => Ok(Err(fault)),
         Ok(left) => match product(right) {
             Err(fault) => Ok(Err(fault)),
-            Ok(right) => Ok(call_two_of(alloc, function, left, right)?),
+            Ok(right) => Ok(function.apply_both(alloc, left, right)?),
         },
     }
 }

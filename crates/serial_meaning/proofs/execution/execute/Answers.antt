@@ -3,7 +3,7 @@ use Rattle.std.specs.Arc.{arc_value}
 use Rattle.hive_model.specs.Algorithm.{Algorithm}
 use Rattle.hive_model.specs.Value.{value_of}
 use Rattle.serial_meaning.specs.Evaluation.{bound}
-use Rattle.serial_meaning.proofs.Executions.{computed-none, computed-more, computed-fault, computed-all}
+use Rattle.hive_model.proofs.Executions.{computed-none, computed-more, computed-fault, computed-all}
 use Rattle.serial_meaning.proofs.execution.execute.Goals as goal
 
 pub loop-number-init : goal.loop-number-init

@@ -1,7 +1,7 @@
 use Rattle.std.proofs.Common.{map}
 use Rattle.std.specs.Arc.{arc_value}
 use Rattle.serial_meaning.specs.Evaluation.{bound}
-use Rattle.serial_meaning.proofs.Executions.{IsComputed}
+use Rattle.hive_model.proofs.Executions.{IsComputed}
 use Rattle.serial_meaning.proofs.execution.execute.Given as goal
 
 abbrev pub invariant-loop-number : goal.invariant-loop-number

@@ -3,7 +3,7 @@ use Rattle.std.specs.Arc.{arc_value}
 use Rattle.hive_model.specs.Algorithm.{Algorithm}
 use Rattle.hive_model.specs.Value.{value_of}
 use Rattle.serial_meaning.specs.Evaluation.{bound}
-use Rattle.serial_meaning.proofs.Executions.{filtered-none, filtered-ok, filtered-err}
+use Rattle.hive_model.proofs.Executions.{filtered-none, filtered-ok, filtered-err}
 use Rattle.serial_meaning.proofs.execution.filter.Goals as goal
 
 pub returns-in_default : goal.returns-in_default

@@ -1,6 +1,0 @@
-use Rattle.std.proofs.Common.{◌≡◌, take, fold}
-use Rattle.hive_model.specs.Call.{lesser}
-use Rattle.serial_meaning.proofs.call.least_from.Given as goal
-
-abbrev pub invariant-loop-number : goal.invariant-loop-number
-invariant-loop-number l = l.least ≡ fold lesser l.fn.first (take l.number-index l.rest)
