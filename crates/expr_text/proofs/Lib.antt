@@ -9,3 +9,9 @@ pub mod Rows
 pub mod ReadBack
 pub mod RulesRead
 pub mod ReadRules
+pub mod Steady
+pub mod SteadyRows
+pub mod SteadyFactors
+pub mod Depths
+pub mod Refusals
+pub mod FirstWrong

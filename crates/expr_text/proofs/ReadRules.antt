@@ -27,7 +27,7 @@ some_it x y h = cc
 none_it : {A : Type 0} (y : A) → ◌≡◌ {A = Option A} None (Some y) → ⊥
 none_it y h = cc
 
-operator-nothing : (level : Level) → operator_at level [] ≡ None
+pub operator-nothing : (level : Level) → operator_at level [] ≡ None
 unfolding operator_at
 operator-nothing level = refl
 
@@ -52,7 +52,7 @@ begins_by level at (Operator op) rest it h = begins_is (is_of level op) refl h
         subst (BeginsWith level (token at (Operator op) ∷ rest)) same (record { tokens_are = refl; is = e })
     begins_is false e k = absurd (none_it it (rw e at k))
 
-begins : (level : Level) (tokens : List Token) (it : ℕ × Binary × List Token) → operator_at level tokens ≡ Some it → BeginsWith level tokens it
+pub begins : (level : Level) (tokens : List Token) (it : ℕ × Binary × List Token) → operator_at level tokens ≡ Some it → BeginsWith level tokens it
 begins level [] it h = absurd (none_it it (sym (operator-nothing level) ∙ h))
 begins level (t ∷ rest) it h = begins_by level t.at t.symbol rest it h
 
@@ -122,7 +122,7 @@ pub record Behind (s : Symbol) (tokens rest : List Token) : Type 0 where
   pub place : ℕ
   pub tokens_are : tokens ≡ token place s ∷ rest
 
-comma_only : (r : Symbol) → is_comma r ≡ true → r ≡ Comma
+pub comma_only : (r : Symbol) → is_comma r ≡ true → r ≡ Comma
 comma_only (Number n) h = absurd cc
 comma_only (Name n) h = absurd cc
 comma_only (Operator op) h = absurd cc
@@ -138,7 +138,7 @@ close_only Open h = absurd cc
 close_only Close h = refl
 close_only Comma h = absurd cc
 
-open_only : (r : Symbol) → is_open r ≡ true → r ≡ Open
+pub open_only : (r : Symbol) → is_open r ≡ true → r ≡ Open
 open_only (Number n) h = absurd cc
 open_only (Name n) h = absurd cc
 open_only (Operator op) h = absurd cc
@@ -152,7 +152,7 @@ behind_first test s t more rest true only e h =
     record { place = t.at; tokens_are = ap (λ r. token t.at r ∷ more) (only t.symbol e) ∙ ap (λ xs. token t.at s ∷ xs) same }
 behind_first test s t more rest false only e h = absurd (none_it rest (rw e at h))
 
-behind_is : (test : Symbol → Bool) (s : Symbol) (tokens rest : List Token) → ((r : Symbol) → test r ≡ true → r ≡ s) → behind test tokens ≡ Some rest → Behind s tokens rest
+pub behind_is : (test : Symbol → Bool) (s : Symbol) (tokens rest : List Token) → ((r : Symbol) → test r ≡ true → r ≡ s) → behind test tokens ≡ Some rest → Behind s tokens rest
 behind_is test s [] rest only h = absurd (none_it rest h)
 behind_is test s (t ∷ more) rest only h = behind_first test s t more rest (test t.symbol) only refl h
 

@@ -3,3 +3,4 @@ pub mod Parts
 pub mod Assembly
 pub mod Printed
 pub mod Known
+pub mod Stops

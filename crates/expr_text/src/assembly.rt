@@ -64,15 +64,7 @@ fn node_over(
                 Err(ExprRefusal::Kind { at })
             }
         }
-        Form::Name(length) => {
-            if !operands.is_empty() {
-                return Err(ExprRefusal::Kind { at });
-            }
-            match handle_of(names, piece(text, at, length)) {
-                Some((handle, kind)) => Ok((Node::Handle(handle), kind)),
-                None => Err(ExprRefusal::UnknownName { at }),
-            }
-        }
+        Form::Name(length) => handle_over(text, names, at, length, operands),
         Form::Sign => match only(operands) {
             Some(operand) => of_kind(
                 at,
@@ -90,6 +82,26 @@ fn node_over(
             None => Err(ExprRefusal::Kind { at }),
         },
         Form::Call(length) => call_over(at, piece(text, at, length), operands),
+    }
+}
+
+// The node of a name that is no function, and its kind.
+#[tactic(auto, unfolding(crate::specs::Assembly::node_over))]
+fn handle_over(
+    text: &[u8],
+    names: &[Named],
+    at: u32,
+    length: u32,
+    operands: &[Slot],
+) -> Result<(Node, Kind), ExprRefusal>
+    ensures { Gives result (node_over text.now names.now at (Form.Name length) operands.now) }
+{
+    if !operands.is_empty() {
+        return Err(ExprRefusal::Kind { at });
+    }
+    match handle_of(names, piece(text, at, length)) {
+        Some((handle, kind)) => Ok((Node::Handle(handle), kind)),
+        None => Err(ExprRefusal::UnknownName { at }),
     }
 }
 

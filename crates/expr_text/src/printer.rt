@@ -2,7 +2,7 @@
 ghost use Rattle.std.specs.Prelude.{◌≡◌, ◌++◌, ◌-◌, ◌∷◌, ◌<◌, List, ℕ, [], Some, None, ◌≤◌, Ok, IfOk, OnOk, slice_get, length, string_bytes, MatchOption};
 ghost use Rattle.hive_model.specs.ExprText.{expr_of};
 ghost use Rattle.hive_model.specs.declared.product.Kind.{Kind};
-ghost use Rattle.hive_model.specs.Tree.{Tree, nodes_of, tree_within};
+ghost use Rattle.hive_model.specs.Tree.{Tree, node_tree, nodes_of, tree_within};
 ghost use Rattle.expr_text.specs.Printed.{IsPrintable, enclosed, function_text, is_compound_node, nesting, operator_text, printed, word_of};
 
 use hive_model::{Binary, Expr, Function, Named, Node, Text};
@@ -59,22 +59,41 @@ fn show(
             show_operand(nodes, names, depth - 1, usize::from(right), out)?;
             Ok(())
         }
-        Node::Call(function, first, second) => match second {
-            None => {
-                open_call(function, out)?;
-                show(nodes, names, depth - 1, usize::from(first), out)?;
-                out.push_str(")")?;
-                Ok(())
-            }
-            Some(second) => {
-                open_call(function, out)?;
-                show(nodes, names, depth - 1, usize::from(first), out)?;
-                out.push_str(", ")?;
-                show(nodes, names, depth - 1, usize::from(second), out)?;
-                out.push_str(")")?;
-                Ok(())
-            }
-        },
+        Node::Call(function, first, second) => {
+            show_call(nodes, names, depth - 1, function, first, second, out)
+        }
+    }
+}
+
+// Appends the text of a call whose operands are at most `depth` high.
+#[cycle(printing)]
+fn show_call(
+    nodes: &[Node],
+    names: &[Named],
+    depth: usize,
+    function: Function,
+    first: u16,
+    second: Option<u16>,
+    out: &mut String,
+) -> Result<(), AllocError>
+    requires { (t : Tree) × (node_tree (tree_within depth nodes.now) (Node.Call function first second) ≡ Some t) }
+    ensures { (t : Tree) → node_tree (tree_within depth nodes.now) (Node.Call function first second) ≡ Some t
+        → OnOk result (string_bytes out.new ≡ string_bytes out.old ++ printed names.now t) }
+{
+    open_call(function, out)?;
+    match second {
+        None => {
+            show(nodes, names, depth, usize::from(first), out)?;
+            out.push_str(")")?;
+            Ok(())
+        }
+        Some(second) => {
+            show(nodes, names, depth, usize::from(first), out)?;
+            out.push_str(", ")?;
+            show(nodes, names, depth, usize::from(second), out)?;
+            out.push_str(")")?;
+            Ok(())
+        }
     }
 }
 

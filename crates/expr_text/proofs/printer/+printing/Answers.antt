@@ -57,41 +57,44 @@ show-returns-in_ok-show_operand-in-Binary-2 t c = λ s h.
     (rw c.operator_text.ensures at c.in_ok-push_str-in-Binary.ensures.bytes)
     (c.in_ok-show_operand-in-Binary-2.ensures part.1 (rw c.from-in-Binary-2.ensures part.3)))
 
-pub show-show-requires : goal.show-show-requires
-show-show-requires t c =
+pub show-show_call-requires : goal.show-show_call-requires
+show-show_call-requires t c =
     let node = tree_within-node _ _ _ _ c.requires.0 c.requires.1 c.in-Call.ensures.node in
-    let part = node_tree-unary (tree_within (c.args.depth - 1) c.args.nodes.now) _ _ _ (rw c.in-None.is at node) in
-    (omega arith, (part.0, rw c.from-in-None.ensures part.1))
+    (omega arith, (c.requires.0, node))
 
-pub show-show-requires-in-Some : goal.show-show-requires-in-Some
-show-show-requires-in-Some t c =
-    let node = tree_within-node _ _ _ _ c.requires.0 c.requires.1 c.in-Call.ensures.node in
-    let part = node_tree-dual (tree_within (c.args.depth - 1) c.args.nodes.now) _ _ _ _ (rw c.in-Some.is at node) in
+pub show-returns-in-Call : goal.show-returns-in-Call
+show-returns-in-Call t c = λ s h. c.show_call.ensures s (tree_within-node _ _ _ _ s h c.in-Call.ensures.node)
+
+pub show_call-show-requires : goal.show_call-show-requires
+show_call-show-requires t c =
+    let part = node_tree-unary (tree_within c.args.depth c.args.nodes.now) _ _ _ (rw c.in-None.is at c.requires.1) in
+    (omega arith, (part.0, rw c.from.ensures part.1))
+
+pub show_call-show-requires-in-Some : goal.show_call-show-requires-in-Some
+show_call-show-requires-in-Some t c =
+    let part = node_tree-dual (tree_within c.args.depth c.args.nodes.now) _ _ _ _ (rw c.in-Some.is at c.requires.1) in
     (omega arith, (part.0, rw c.from-in-Some.ensures part.2))
 
-pub show-show-requires-in-Some-2 : goal.show-show-requires-in-Some-2
-show-show-requires-in-Some-2 t c =
-    let node = tree_within-node _ _ _ _ c.requires.0 c.requires.1 c.in-Call.ensures.node in
-    let part = node_tree-dual (tree_within (c.args.depth - 1) c.args.nodes.now) _ _ _ _ (rw c.in-Some.is at node) in
+pub show_call-show-requires-in-Some-2 : goal.show_call-show-requires-in-Some-2
+show_call-show-requires-in-Some-2 t c =
+    let part = node_tree-dual (tree_within c.args.depth c.args.nodes.now) _ _ _ _ (rw c.in-Some.is at c.requires.1) in
     (omega arith, (part.1, rw c.from-in-Some-2.ensures part.3))
 
-pub show-returns-in_ok-push_str-in-None : goal.show-returns-in_ok-push_str-in-None
+pub show_call-returns-in_ok-push_str-in-None : goal.show_call-returns-in_ok-push_str-in-None
 unfolding printed
-show-returns-in_ok-push_str-in-None t c = λ s h.
-    let node = tree_within-node _ _ _ _ s h c.in-Call.ensures.node in
-    let part = node_tree-unary (tree_within (c.args.depth - 1) c.args.nodes.now) _ _ _ (rw c.in-None.is at node) in
-    rw part.2 (joined_call _ _ _ _ (function_text c.in-Call.function) (printed c.args.names.now part.0)
-    c.in_ok-open_call-in-None.ensures
-    (c.in_ok-show-in-None.ensures part.0 (rw c.from-in-None.ensures part.1))
+show_call-returns-in_ok-push_str-in-None t c = λ s h.
+    let part = node_tree-unary (tree_within c.args.depth c.args.nodes.now) _ _ s (rw c.in-None.is at h) in
+    rw part.2 (joined_call _ _ _ _ (function_text c.args.function) (printed c.args.names.now part.0)
+    c.in_ok-open_call.ensures
+    (c.in_ok-show-in-None.ensures part.0 (rw c.from.ensures part.1))
     c.in_ok-push_str-in-None.ensures.bytes)
 
-pub show-returns-in_ok-push_str-in-Some-2 : goal.show-returns-in_ok-push_str-in-Some-2
+pub show_call-returns-in_ok-push_str-in-Some-2 : goal.show_call-returns-in_ok-push_str-in-Some-2
 unfolding printed
-show-returns-in_ok-push_str-in-Some-2 t c = λ s h.
-    let node = tree_within-node _ _ _ _ s h c.in-Call.ensures.node in
-    let part = node_tree-dual (tree_within (c.args.depth - 1) c.args.nodes.now) _ _ _ _ (rw c.in-Some.is at node) in
-    rw part.4 (joined_dual _ _ _ _ _ _ (function_text c.in-Call.function) (printed c.args.names.now part.0) (printed c.args.names.now part.1)
-    c.in_ok-open_call-in-Some.ensures
+show_call-returns-in_ok-push_str-in-Some-2 t c = λ s h.
+    let part = node_tree-dual (tree_within c.args.depth c.args.nodes.now) _ _ _ s (rw c.in-Some.is at h) in
+    rw part.4 (joined_dual _ _ _ _ _ _ (function_text c.args.function) (printed c.args.names.now part.0) (printed c.args.names.now part.1)
+    c.in_ok-open_call.ensures
     (c.in_ok-show-in-Some.ensures part.0 (rw c.from-in-Some.ensures part.2))
     c.in_ok-push_str-in-Some.ensures.bytes
     (c.in_ok-show-in-Some-2.ensures part.1 (rw c.from-in-Some-2.ensures part.3))
