@@ -1,4 +1,5 @@
-//! The real streams. What they hold can't be stated, so they tell nothing of it.
+//! The real streams. They tell what the reader or the writer below tells of its bytes, which is nothing for
+//! standard input and output.
 ghost use Rattle.std.specs.Prelude.{◌≡◌, IfOk};
 
 use hive_edge::{Failed, Sink, Source};
@@ -13,15 +14,16 @@ pub struct RealIn<R: Read + Drop> {
 
 impl<R: Read + Drop> RealIn<R> {
     /// A source over `reader` that has not failed yet.
-    pub fn new(reader: R) -> RealIn<R> {
+    pub fn new(reader: R) -> RealIn<R>
+        ensures reader { result.reader ≡ reader }
+        ensures faults { result.faults ≡ 0 }
+    {
         RealIn { reader, faults: 0 }
     }
 }
 
 impl<R: Read + Drop> Source for RealIn<R> {
-    ghost use Rattle.std.specs.Prelude.{None};
-
-    ghost rest = { λ _. None };
+    ghost rest = { λ source. R.remaining source.reader };
 
     ghost faults = { λ source. source.faults };
 
@@ -45,15 +47,16 @@ pub struct RealOut<W: Write + Drop> {
 
 impl<W: Write + Drop> RealOut<W> {
     /// A sink over `writer` that has not failed yet.
-    pub fn new(writer: W) -> RealOut<W> {
+    pub fn new(writer: W) -> RealOut<W>
+        ensures writer { result.writer ≡ writer }
+        ensures faults { result.faults ≡ 0 }
+    {
         RealOut { writer, faults: 0 }
     }
 }
 
 impl<W: Write + Drop> Sink for RealOut<W> {
-    ghost use Rattle.std.specs.Prelude.{None};
-
-    ghost got = { λ _. None };
+    ghost got = { λ sink. W.contents sink.writer };
 
     ghost faults = { λ sink. sink.faults };
 
