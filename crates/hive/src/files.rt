@@ -1,7 +1,8 @@
 //! The real files. What they hold can't be stated, so they tell nothing of it.
 ghost use Rattle.std.specs.Prelude.{◌≡◌, ◌≢◌, ◌≤◌, ◌<◌, [], length, Err, IfOk, OnOk, OnErr};
 ghost use Rattle.std.specs.Io.KnownBytes.{Consumes, IsAtEnd};
-ghost use Rattle.hive.specs.Reading.{Adds, Tells};
+ghost use Rattle.hive_top.specs.Cause.{Adds};
+ghost use Rattle.hive.specs.Reading.{Tells};
 
 use hive_edge::{Shelf, ShelfFault};
 use std::fs;
