@@ -3,8 +3,9 @@ ghost use Rattle.std.specs.Prelude.{IfOk};
 ghost use Rattle.hive_model.specs.Runnable.{AreInOrder};
 
 use expr_text::parse;
-use hive_model::{Expr, ExprRefusal, Kind, Named, Text};
+use hive_model::{Expr, Kind, Text};
 use std::alloc::{AllocError, Global};
+use text_model::{ExprRefusal, Named};
 
 /// How many operands are added in a text of 1,024 bytes and 256 nodes.
 pub(crate) const MOST: u8 = 127;

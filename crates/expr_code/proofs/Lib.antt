@@ -1,3 +1,6 @@
+-- where a handle's product stands
 pub mod Handles
+-- an expression on the stack
 pub mod Stacks
-pub mod Executing
+-- the outputs of an execution, one after another
+pub mod Outputs

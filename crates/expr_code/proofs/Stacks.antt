@@ -1,7 +1,7 @@
 -- The nodes of a tree leave its value on the stack, or stop at its fault.
 use Rattle.std.proofs.Common.{◌≡◌, ℕ, ◌+◌, ◌<◌, ◌≤◌, List, [], ◌∷◌, ◌++◌, Some, None, Result, Ok, Err, IsOk, length, map, get_or, drop, refl, sym, ap, ◌∙◌, append_assoc}
 use Rattle.std.proofs.lemmas.List.{append-nil, drop_all, drop_more, reverse-append}
-use Rattle.hive_model.proofs.Trees.{tree_of-nodes_of}
+use Rattle.event_laws.proofs.Trees.{tree_of-nodes_of}
 use Rattle.std.specs.Option.{option_map_or}
 use Rattle.hive_model.specs.Call.{unfit, call_one, call_two}
 use Rattle.hive_model.specs.Number.{Worth}
@@ -22,22 +22,27 @@ Bound = List (ℕ × Product)
 
 after_one : (held : Bound) (n : Node) (rest : List Node) (k : Product → Worth) (w : Worth) (stack : List Worth) →
     ((below : List Worth) → after_node held n below ≡ over_one k below) →
-    going_on (with_top w stack) (after_nodes held (n ∷ rest)) ≡ going_on (with_top (and_then w k) stack) (after_nodes held rest)
+    going_on (with_top w stack) (after_nodes held (n ∷ rest)) ≡ going_on (with_top (and_then w k) stack)
+    (after_nodes held rest)
 unfolding after_nodes
 after_one held n rest k (Ok p) stack is = ap (λ it. going_on it (after_nodes held rest)) (is (Ok p ∷ stack))
 after_one held n rest k (Err f) stack is = refl
 
-after_second : (held : Bound) (n : Node) (rest : List Node) (k : Product → Product → Worth) (p : Product) (w : Worth) (stack : List Worth) →
+after_second : (held : Bound) (n : Node) (rest : List Node) (k : Product → Product → Worth) (p : Product) (w : Worth)
+    (stack : List Worth) →
     ((below : List Worth) → after_node held n below ≡ over_two k below) →
-    going_on (with_top w (Ok p ∷ stack)) (after_nodes held (n ∷ rest)) ≡ going_on (with_top (and_then w (k p)) stack) (after_nodes held rest)
+    going_on (with_top w (Ok p ∷ stack)) (after_nodes held (n ∷ rest)) ≡ going_on (with_top (and_then w (k p)) stack)
+    (after_nodes held rest)
 unfolding after_nodes
 after_second held n rest k p (Ok q) stack is = ap (λ it. going_on it (after_nodes held rest)) (is (Ok q ∷ Ok p ∷ stack))
 after_second held n rest k p (Err f) stack is = refl
 
-after_two : (held : Bound) (right : List Node) (n : Node) (rest : List Node) (k : Product → Product → Worth) (l r : Worth) (stack : List Worth) →
+after_two : (held : Bound) (right : List Node) (n : Node) (rest : List Node) (k : Product → Product → Worth)
+    (l r : Worth) (stack : List Worth) →
     ((below : List Worth) → after_node held n below ≡ over_two k below) →
     ((below : List Worth) → after_nodes held (right ++ n ∷ rest) below ≡ going_on (with_top r below) (after_nodes held (n ∷ rest))) →
-    going_on (with_top l stack) (after_nodes held (right ++ n ∷ rest)) ≡ going_on (with_top (and_then l (λ p. and_then r (k p))) stack) (after_nodes held rest)
+    going_on (with_top l stack) (after_nodes held (right ++ n ∷ rest)) ≡ going_on
+    (with_top (and_then l (λ p. and_then r (k p))) stack) (after_nodes held rest)
 after_two held right n rest k (Ok p) r stack is made = made (Ok p ∷ stack) ∙ after_second held n rest k p r stack is
 after_two held right n rest k (Err f) r stack is made = refl
 
@@ -47,10 +52,12 @@ one_row : (own rest : List Node) (n : Node) → (own ++ n ∷ []) ++ rest ≡ ow
 one_row own rest n = append_assoc own (n ∷ []) rest
 
 two_rows : (left right rest : List Node) (n : Node) → (left ++ (right ++ n ∷ [])) ++ rest ≡ left ++ (right ++ n ∷ rest)
-two_rows left right rest n = append_assoc left (right ++ n ∷ []) rest ∙ ap (λ them. left ++ them) (append_assoc right (n ∷ []) rest)
+two_rows left right rest n =
+    append_assoc left (right ++ n ∷ []) rest ∙ ap (λ them. left ++ them) (append_assoc right (n ∷ []) rest)
 
 pub after_tree : (held : Bound) (t : Tree) (from : ℕ) (rest : List Node) (stack : List Worth) →
-    after_nodes held (nodes_from from t ++ rest) stack ≡ going_on (with_top (value held t) stack) (after_nodes held rest)
+    after_nodes held (nodes_from from t ++ rest) stack ≡ going_on (with_top (value held t) stack)
+    (after_nodes held rest)
 unfolding after_nodes after_node value
 after_tree held (Literal n) from rest stack = refl
 after_tree held (Held h) from rest stack = refl
@@ -63,8 +70,10 @@ after_tree held (Operation op l r) from rest stack =
     let left = nodes_from from l in
     let right = nodes_from (from + size l) r in
     let n = node.Binary op (root from l) (root (from + size l) r) in
-    ap (λ them. after_nodes held them stack) (two_rows left right rest n) ∙ after_tree held l from (right ++ n ∷ rest) stack
-    ∙ after_two held right n rest (operated op) (value held l) (value held r) stack (λ below. refl) (λ below. after_tree held r (from + size l) (n ∷ rest) below)
+    ap (λ them. after_nodes held them stack) (two_rows left right rest n)
+    ∙ after_tree held l from (right ++ n ∷ rest) stack
+    ∙ after_two held right n rest (operated op) (value held l) (value held r) stack (λ below. refl)
+    (λ below. after_tree held r (from + size l) (n ∷ rest) below)
 after_tree held (Unary f t) from rest stack =
     let own = nodes_from from t in
     let n = node.Call f (root from t) None in
@@ -74,8 +83,10 @@ after_tree held (Dual f l r) from rest stack =
     let left = nodes_from from l in
     let right = nodes_from (from + size l) r in
     let n = node.Call f (root from l) (Some (root (from + size l) r)) in
-    ap (λ them. after_nodes held them stack) (two_rows left right rest n) ∙ after_tree held l from (right ++ n ∷ rest) stack
-    ∙ after_two held right n rest (call_two f) (value held l) (value held r) stack (λ below. refl) (λ below. after_tree held r (from + size l) (n ∷ rest) below)
+    ap (λ them. after_nodes held them stack) (two_rows left right rest n)
+    ∙ after_tree held l from (right ++ n ∷ rest) stack
+    ∙ after_two held right n rest (call_two f) (value held l) (value held r) stack (λ below. refl)
+    (λ below. after_tree held r (from + size l) (n ∷ rest) below)
 
 going_nowhere : (held : Bound) (w : Worth) → going_on (with_top w []) (after_nodes held []) ≡ with_top w []
 unfolding after_nodes
@@ -83,7 +94,8 @@ going_nowhere held (Ok p) = refl
 going_nowhere held (Err f) = refl
 
 -- the whole expression
-pub after_all : (held : Bound) (nodes : List Node) → AreInOrder nodes → after_nodes held nodes [] ≡ with_top (value_of held nodes) []
+pub after_all : (held : Bound) (nodes : List Node) → AreInOrder nodes →
+    after_nodes held nodes [] ≡ with_top (value_of held nodes) []
 unfolding nodes_of value_of
 after_all held nodes h =
     let t = h.0 in
@@ -93,37 +105,46 @@ after_all held nodes h =
 
 -- the stack after a push
 
-pub stack_in-push : (products : List Product) (items : List Operand) (it : Operand) → stack_in products (items ++ it ∷ []) ≡ operand_in products it ∷ stack_in products items
+pub stack_in-push : (products : List Product) (items : List Operand) (it : Operand) →
+    stack_in products (items ++ it ∷ []) ≡ operand_in products it ∷ stack_in products items
 stack_in-push products items it = ap (map (operand_in products)) (reverse-append items (it ∷ []))
 
 -- one node more of a list of nodes
 
-goes_on : (after : Result (List Worth) Fault) (next : List Worth) (r : Result (Unit {0}) Fault) (u : Unit {0}) → Follows after next r → r ≡ Ok u → after ≡ Ok next
+goes_on : (after : Result (List Worth) Fault) (next : List Worth) (r : Result (Unit {0}) Fault) (u : Unit {0}) →
+    Follows after next r → r ≡ Ok u → after ≡ Ok next
 goes_on after next (Ok v) u h e = h
 goes_on after next (Err f) u h e = cc
 
-stops_at : (after : Result (List Worth) Fault) (next : List Worth) (r : Result (Unit {0}) Fault) (f : Fault) → Follows after next r → r ≡ Err f → after ≡ Err f
+stops_at : (after : Result (List Worth) Fault) (next : List Worth) (r : Result (Unit {0}) Fault) (f : Fault) →
+    Follows after next r → r ≡ Err f → after ≡ Err f
 stops_at after next (Ok v) f h e = cc
 stops_at after next (Err g) f h e = let same : g ≡ f = cc in h ∙ ap Err same
 
 ahead : (held : Bound) (nodes : List Node) (index : ℕ) (d : Node) (stack : List Worth) → index < length nodes →
-    after_nodes held (drop index nodes) stack ≡ going_on (after_node held (get_or nodes index d) stack) (after_nodes held (drop (index + 1) nodes))
+    after_nodes held (drop index nodes) stack ≡ going_on (after_node held (get_or nodes index d) stack)
+    (after_nodes held (drop (index + 1) nodes))
 unfolding after_nodes
 ahead held nodes index d stack b = ap (λ them. after_nodes held them stack) (drop_more nodes index d b)
 
-pub after_more : (held : Bound) (nodes : List Node) (index : ℕ) (d : Node) (stack next : List Worth) (r : Result (Unit {0}) Fault) (u : Unit {0}) → index < length nodes →
-    Follows (after_node held (get_or nodes index d) stack) next r → r ≡ Ok u → after_nodes held (drop index nodes) stack ≡ after_nodes held nodes [] →
+pub after_more : (held : Bound) (nodes : List Node) (index : ℕ) (d : Node) (stack next : List Worth)
+    (r : Result (Unit {0}) Fault) (u : Unit {0}) →
+    index < length nodes → Follows (after_node held (get_or nodes index d) stack) next r → r ≡ Ok u →
+    after_nodes held (drop index nodes) stack ≡ after_nodes held nodes [] →
     after_nodes held (drop (index + 1) nodes) next ≡ after_nodes held nodes []
 after_more held nodes index d stack next r u b follows is so_far =
     let made = goes_on (after_node held (get_or nodes index d) stack) next r u follows is in
-    sym (ahead held nodes index d stack b ∙ ap (λ it. going_on it (after_nodes held (drop (index + 1) nodes))) made) ∙ so_far
+    sym (ahead held nodes index d stack b ∙ ap (λ it. going_on it (after_nodes held (drop (index + 1) nodes))) made)
+    ∙ so_far
 
 fault_left : (w : Worth) (f : Fault) → with_top w [] ≡ Err f → Err f ≡ w
 fault_left (Ok p) f e = cc
 fault_left (Err g) f e = cc
 
-pub after_fault : (held : Bound) (nodes : List Node) (index : ℕ) (d : Node) (stack next : List Worth) (r : Result (Unit {0}) Fault) (f : Fault) → AreInOrder nodes → index < length nodes →
-    Follows (after_node held (get_or nodes index d) stack) next r → r ≡ Err f → after_nodes held (drop index nodes) stack ≡ after_nodes held nodes [] → Err f ≡ value_of held nodes
+pub after_fault : (held : Bound) (nodes : List Node) (index : ℕ) (d : Node) (stack next : List Worth)
+    (r : Result (Unit {0}) Fault) (f : Fault) →
+    AreInOrder nodes → index < length nodes → Follows (after_node held (get_or nodes index d) stack) next r →
+    r ≡ Err f → after_nodes held (drop index nodes) stack ≡ after_nodes held nodes [] → Err f ≡ value_of held nodes
 after_fault held nodes index d stack next r f order b follows is so_far =
     let made = stops_at (after_node held (get_or nodes index d) stack) next r f follows is in
     let stops = ahead held nodes index d stack b ∙ ap (λ it. going_on it (after_nodes held (drop (index + 1) nodes))) made in
@@ -149,14 +170,18 @@ unfolding after_nodes
 at_end held nodes index stack order b so_far =
     sym (after_all held nodes order) ∙ sym so_far ∙ ap (λ them. after_nodes held them stack) (drop_all index nodes b)
 
-pub after_last : (held : Bound) (nodes : List Node) (index : ℕ) (x : Worth) (below : List Worth) → AreInOrder nodes → length nodes ≤ index →
-    after_nodes held (drop index nodes) (x ∷ below) ≡ after_nodes held nodes [] → x ≡ value_of held nodes
-after_last held nodes index x below order b so_far = left_over (value_of held nodes) x below (at_end held nodes index (x ∷ below) order b so_far)
+pub after_last : (held : Bound) (nodes : List Node) (index : ℕ) (x : Worth) (below : List Worth) → AreInOrder nodes →
+    length nodes ≤ index → after_nodes held (drop index nodes) (x ∷ below) ≡ after_nodes held nodes [] →
+    x ≡ value_of held nodes
+after_last held nodes index x below order b so_far =
+    left_over (value_of held nodes) x below (at_end held nodes index (x ∷ below) order b so_far)
 
-pub last_whole : (held : Bound) (nodes : List Node) (index : ℕ) (x : Worth) (below : List Worth) → AreInOrder nodes → length nodes ≤ index →
-    after_nodes held (drop index nodes) (x ∷ below) ≡ after_nodes held nodes [] → IsOk x
-last_whole held nodes index x below order b so_far = left_whole (value_of held nodes) x below (at_end held nodes index (x ∷ below) order b so_far)
+pub last_whole : (held : Bound) (nodes : List Node) (index : ℕ) (x : Worth) (below : List Worth) → AreInOrder nodes →
+    length nodes ≤ index → after_nodes held (drop index nodes) (x ∷ below) ≡ after_nodes held nodes [] → IsOk x
+last_whole held nodes index x below order b so_far =
+    left_whole (value_of held nodes) x below (at_end held nodes index (x ∷ below) order b so_far)
 
 pub never_empty : (held : Bound) (nodes : List Node) (index : ℕ) → AreInOrder nodes → length nodes ≤ index →
     after_nodes held (drop index nodes) [] ≡ after_nodes held nodes [] → ⊥
-never_empty held nodes index order b so_far = nothing_left (value_of held nodes) (at_end held nodes index [] order b so_far)
+never_empty held nodes index order b so_far =
+    nothing_left (value_of held nodes) (at_end held nodes index [] order b so_far)

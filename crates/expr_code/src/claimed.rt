@@ -1,19 +1,19 @@
 //! Work that is handed out.
-ghost use Rattle.std.specs.Prelude.{◌≡◌, Some, slice_get};
+ghost use Rattle.std.specs.Prelude.{◌≡◌, Some, map, slice_get};
 ghost use Rattle.std.specs.Arc.{arc_value};
 ghost use Rattle.hive_model.specs.Job.{Job};
 ghost use Rattle.hive_model.specs.Runnable.{CanPerform};
 ghost use Rattle.hive_model.specs.Scratch.{IsMadeFor};
 ghost use Rattle.expr_code.specs.Claim.{IsOfJob, claim_of};
 
-use hive_model::{Algorithm, Lent};
+use hive_model::{Algorithm, Lent, Product};
 use std::marker::Model;
 use std::sync::Arc;
 
 /// An algorithm that was claimed for one event, with an instance on loan that holds its inputs.
 ///
-/// It can't be dropped: it is spent by [`crate::perform`] or by [`Claimed::into_lent`], so no instance is
-/// lost with a claim.
+/// It can't be dropped: it is spent by [`crate::perform`] or by [`Claimed::into_lent`], so no
+/// instance is lost with a claim.
 pub struct Claimed {
     pub(crate) ticket: u64,
     pub(crate) place: u64,
@@ -31,17 +31,20 @@ impl Model for Claimed {
 
     ghost view = { λ it. claim_of it.ticket it.place (arc_value it.body) it.lent };
 
-    ghost invariant = { λ it. CanPerform (arc_value it.body) × IsMadeFor (arc_value it.body) it.lent.scratch };
+    ghost invariant = { λ it. CanPerform (arc_value it.body)
+        × IsMadeFor (arc_value it.body) it.lent.scratch };
 }
 
 impl Claimed {
-    /// A claim with that ticket, for the event that stands at a place of the input, from 1. The body is
-    /// the algorithm that was lent.
+    /// A claim with that ticket, for the event that stands at a place of the input, from 1. The
+    /// body is the algorithm that was lent.
     pub fn new(ticket: u64, place: u64, body: Arc<Algorithm>, lent: Lent) -> Claimed
         requires performs { CanPerform (arc_value body) }
         requires made_for { IsMadeFor (arc_value body) lent.scratch }
         ensures claim { result ≡ claim_of ticket place (arc_value body) lent }
-        ensures of_job { (job : Job) → slice_get job.algorithms lent.algorithm ≡ Some (arc_value body) → IsOfJob job result }
+        ensures of_job { (job : Job)
+            → slice_get job.algorithms lent.algorithm ≡ Some (arc_value body)
+            → IsOfJob job result }
     {
         Claimed {
             ticket,
@@ -77,6 +80,13 @@ impl Claimed {
         ensures { result ≡ self.now.clone }
     {
         self.lent.clone
+    }
+
+    /// The products of the algorithm's inputs, in written order.
+    pub fn inputs(&self) -> &[Arc<Product>]
+        ensures { map arc_value result.now ≡ self.now.inputs }
+    {
+        self.lent.scratch.inputs()
     }
 
     /// Gives the instance back, and the algorithm isn't executed.

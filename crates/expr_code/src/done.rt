@@ -10,8 +10,8 @@ use std::sync::Arc;
 
 /// A claim that was executed, with the outcome and the outputs that it left.
 ///
-/// [`crate::perform`] alone makes it. Its type keeps that outcome and outputs are those of the algorithm
-/// over the inputs (docs/PROCESSING.md, "Execution"); `outcome` and `into_parts` tell it.
+/// [`crate::perform`] alone makes it. Its type keeps that outcome and outputs are those of the
+/// algorithm over the inputs (docs/PROCESSING.md, "Execution"); `outcome` and `into_parts` tell it.
 #[derive(Drop)]
 pub struct Done {
     pub(crate) ticket: u64,
@@ -23,17 +23,22 @@ pub struct Done {
 }
 
 impl Model for Done {
-    ghost use Rattle.std.specs.Prelude.{◌≡◌, map};
+    ghost use Rattle.std.specs.Prelude.{◌≡◌};
     ghost use Rattle.std.specs.Arc.{arc_value};
     ghost use Rattle.hive_model.specs.Execution.{execution};
     ghost use Rattle.hive_model.specs.Scratch.{IsMadeFor};
-    ghost use Rattle.expr_code.specs.Claim.{Done as Shown, claim_of};
+    ghost use Rattle.expr_code.specs.Claim.{Done as Shown, claim_of, left_with};
 
     ghost Value = { Shown };
 
-    ghost view = { λ it. record { claim = claim_of it.ticket it.place (arc_value it.body) it.lent; left = record { outcome = it.outcome; outputs = map arc_value it.outputs.items } } };
+    ghost view = { λ it. record {
+      claim = claim_of it.ticket it.place (arc_value it.body) it.lent;
+      left = left_with it.outcome it.outputs.items;
+    } };
 
-    ghost invariant = { λ it. (record { outcome = it.outcome; outputs = map arc_value it.outputs.items } ≡ execution (arc_value it.body) it.lent.scratch.inputs)
+    ghost invariant = { λ it.
+        (left_with it.outcome it.outputs.items
+        ≡ execution (arc_value it.body) it.lent.scratch.inputs)
         × IsMadeFor (arc_value it.body) it.lent.scratch };
 }
 
@@ -64,6 +69,13 @@ impl Done {
         ensures { result ≡ self.now.claim.clone }
     {
         self.lent.clone
+    }
+
+    /// The products of the algorithm's inputs, in written order.
+    pub fn inputs(&self) -> &[Arc<Product>]
+        ensures { map arc_value result.now ≡ self.now.claim.inputs }
+    {
+        self.lent.scratch.inputs()
     }
 
     /// How the execution ended.

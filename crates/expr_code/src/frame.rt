@@ -1,15 +1,15 @@
 //! What an expression of an algorithm sees.
-ghost use Rattle.std.specs.Prelude.{◌≡◌, ◌<◌, Ok, Err, IfOk, IsOk, MatchOption, MatchResult, None, length, map, nat_eq, nat_lt, ◌&&◌, option_map, slice_get};
+ghost use Rattle.std.specs.Prelude.{◌≡◌, Ok, IfOk, IsOk, map, nat_eq, nat_lt, ◌&&◌, option_map, slice_get};
 ghost use Rattle.std.specs.Arc.{arc_value};
 ghost use Rattle.std.specs.List.{enumerate_from};
-ghost use Rattle.std.specs.Map.{lookup};
-ghost use Rattle.expr_code.specs.Stack.{operand_in, products, seen_by};
+ghost use Rattle.expr_code.specs.Frame.{IsIndexOf, product_named, products, seen_by};
+ghost use Rattle.expr_code.specs.Stack.{Borrows, operand_in};
 
 use hive_model::{Algorithm, Fault, Operand, Product};
 use std::alloc::{AllocError, Global};
 use std::sync::Arc;
 
-/// An algorithm, the products of its inputs, and those of its outputs so far.
+// An algorithm, the products of its inputs, and those of its outputs so far.
 #[derive(Clone, Copy)]
 pub(crate) struct Frame<'a> {
     pub(crate) body: &'a Algorithm,
@@ -17,18 +17,17 @@ pub(crate) struct Frame<'a> {
     pub(crate) outputs: &'a [Arc<Product>],
 }
 
-/// Whether the input with that index is the handle's, and is there.
+// Whether the input with that index is the handle's, and is there.
 fn is_bound(handle: u16, input: u16, index: usize, count: usize) -> bool
     ensures { result ≡ (nat_eq handle input && nat_lt index count) }
 {
     handle == input && index < count
 }
 
-/// The index of the output that the handle is, if it is there.
+// The index of the output that the handle is, if it is there.
 fn output_index(first: u16, handle: u16, outputs: &[Arc<Product>]) -> Option<usize>
-    ensures { MatchOption result (lookup (nat_eq handle) (enumerate_from first (map arc_value outputs.now)) ≡ None)
-        (λ n. (slice_get (map arc_value outputs.now) n ≡ lookup (nat_eq handle) (enumerate_from first (map arc_value outputs.now)))
-        × (n < length outputs.now)) }
+    ensures { IsIndexOf result (map arc_value outputs.now)
+        (product_named handle (enumerate_from first (map arc_value outputs.now))) }
 {
     if handle < first {
         return None;
@@ -41,10 +40,9 @@ fn output_index(first: u16, handle: u16, outputs: &[Arc<Product>]) -> Option<usi
     }
 }
 
-/// The index of the product that a handle names, among the inputs and then the outputs so far.
+// The index of the product that a handle names, among the inputs and then the outputs so far.
 pub(crate) fn index_of(frame: &Frame<'_>, handle: u16) -> Option<usize>
-    ensures { MatchOption result (lookup (nat_eq handle) (seen_by frame.now) ≡ None)
-        (λ n. (slice_get (products frame.now) n ≡ lookup (nat_eq handle) (seen_by frame.now)) × (n < length (products frame.now))) }
+    ensures { IsIndexOf result (products frame.now) (product_named handle (seen_by frame.now)) }
 {
     let body = frame.body;
     for (index, input) in body.inputs().iter().enumerate() {
@@ -58,7 +56,7 @@ pub(crate) fn index_of(frame: &Frame<'_>, handle: u16) -> Option<usize>
     }
 }
 
-/// The product with that index.
+// The product with that index.
 fn held_at<'a>(frame: &'a Frame<'_>, index: usize) -> Option<&'a Arc<Product>>
     ensures { option_map (λ it. arc_value it.now) result ≡ slice_get (products frame.now) index }
 {
@@ -69,14 +67,13 @@ fn held_at<'a>(frame: &'a Frame<'_>, index: usize) -> Option<&'a Arc<Product>>
     }
 }
 
-/// The product that an operand is. None that stands on the stack is at fault.
+// The product that an operand is. None that stands on the stack is at fault.
 #[tactic(auto, unfolding(hive_model::specs::Call::unfit))]
 pub(crate) fn product_of<'a>(
     frame: &'a Frame<'_>,
     operand: &'a Operand,
 ) -> Result<&'a Product, Fault>
-    ensures { MatchResult result (λ p. operand_in (products frame.now) operand.now ≡ Ok p.now)
-        (λ f. operand_in (products frame.now) operand.now ≡ Err f) }
+    ensures { Borrows result (operand_in (products frame.now) operand.now) }
 {
     match operand {
         Operand::Made(product) => Ok(product),
@@ -87,7 +84,8 @@ pub(crate) fn product_of<'a>(
     }
 }
 
-/// One owner more of what is held, or the first owner of what was made. The only error is want of memory.
+// One owner more of what is held, or the first owner of what was made. The only error is that
+// memory ran out.
 #[tactic(auto, unfolding(hive_model::specs::Call::unfit))]
 pub(crate) fn share(
     alloc: Global,

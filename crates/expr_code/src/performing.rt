@@ -1,18 +1,47 @@
 //! A claim is performed.
 ghost use Rattle.std.specs.Prelude.{◌≡◌, ◌+◌, IfOk, IfErr};
 ghost use Rattle.hive_model.specs.Execution.{execution};
+ghost use Rattle.hive_model.specs.Runnable.{CanPerform};
+ghost use Rattle.hive_model.specs.Scratch.{IsMadeFor};
 
-use crate::execution::execute;
+use crate::executing::execute;
+use crate::execution::Execution;
 use crate::{Claimed, Done, Steps};
-use hive_model::{Lent, Scratch};
+use hive_model::{Algorithm, Lent, Scratch};
 use std::alloc::{AllocError, Global};
 use std::sync::ledger::Ledger;
+
+// Executes an algorithm over the inputs of the instance, which comes back with them and its room.
+fn execute_in(alloc: Global, body: &Algorithm, lent: Lent) -> (Lent, Result<Execution, AllocError>)
+    requires performs { CanPerform body.now }
+    requires made_for { IsMadeFor body.now lent.scratch }
+    ensures executed { IfOk result.1 (λ it. it ≡ execution body.now lent.scratch.inputs) }
+    ensures algorithm { result.0.algorithm ≡ lent.algorithm }
+    ensures clone { result.0.clone ≡ lent.clone }
+    ensures inputs { result.0.scratch.inputs ≡ lent.scratch.inputs }
+    ensures made_for { IsMadeFor body.now result.0.scratch }
+{
+    let Lent {
+        algorithm,
+        clone,
+        scratch,
+    } = lent;
+    let (mut stack, inputs) = scratch.into_parts();
+    let executed = execute(alloc, body, inputs.as_slice(), &mut stack);
+    let scratch = Scratch::from_parts(stack, inputs);
+    let lent = Lent {
+        algorithm,
+        clone,
+        scratch,
+    };
+    (lent, executed)
+}
 
 /// Executes the claim's algorithm over the inputs that its scratch holds (docs/PROCESSING.md,
 /// "Execution"), and counts one step, whatever comes.
 ///
-/// An algorithm that faults is done, with the outcome that it failed. The only error is want of memory,
-/// which hands the claim back as it was.
+/// An algorithm that faults is done, with the outcome that it failed. The only error is that memory
+/// ran out, which hands the claim back as it was.
 pub fn perform<L: Ledger>(
     alloc: Global,
     claimed: Claimed,
@@ -30,34 +59,24 @@ pub fn perform<L: Ledger>(
         body,
         lent,
     } = claimed;
-    let Lent {
-        algorithm,
-        clone,
-        scratch: Scratch { mut stack, inputs },
-    } = lent;
-    let answer = execute(alloc, &body, inputs.as_slice(), &mut stack);
-    let lent = Lent {
-        algorithm,
-        clone,
-        scratch: Scratch { stack, inputs },
-    };
-    match answer {
-        Ok(execution) => Ok(Done {
+    let (lent, executed) = execute_in(alloc, &body, lent);
+    match executed {
+        Ok(Execution { outcome, outputs }) => Ok(Done {
             ticket,
             place,
             body,
             lent,
-            outcome: execution.outcome,
-            outputs: execution.outputs,
+            outcome,
+            outputs,
         }),
-        Err(error) => Err((
-            Claimed {
+        Err(error) => {
+            let claimed = Claimed {
                 ticket,
                 place,
                 body,
                 lent,
-            },
-            error,
-        )),
+            };
+            Err((claimed, error))
+        }
     }
 }

@@ -4,20 +4,20 @@ use Rattle.std.specs.Option.{option_map}
 use Rattle.std.proofs.Math.Dec.{eqb-suc-zero}
 use Rattle.std.proofs.Math.Seq.{take-append_seam}
 use Rattle.std.proofs.lemmas.List.{append_assoc, append-nil, drop_at, length-append}
-use Rattle.hive_model.specs.ExprText.{function_of, handle_of, number_and_kind, of_some_kind, piece, tree_over, tree_written, trees_written}
-use Rattle.hive_model.specs.Steps.{◌>>=◌, or_refuse}
+use Rattle.text_model.specs.ExprText.{function_of, handle_of, number_and_kind, of_some_kind, piece, tree_over, tree_written, trees_written}
+use Rattle.text_model.specs.Steps.{◌>>=◌, or_refuse}
 use Rattle.hive_model.specs.Tree.{Tree, Literal, Held, Minus, Operation, Unary, Dual, root, nodes_from, nodes_of, size as tree_size}
-use Rattle.hive_model.specs.Valid.{if_num, one_kind, two_kind}
-use Rattle.hive_model.specs.Written.{Written, Operands, Over, Bare, And}
+use Rattle.hive_model.specs.Kinds.{if_num, one_kind, two_kind}
+use Rattle.text_model.specs.Written.{Written, Operands, Over, Bare, And}
 use Rattle.hive_model.specs.declared.expr.Function.{Function}
 use Rattle.hive_model.specs.declared.expr.Node.{Node}
 use Rattle.hive_model.specs.declared.expr.Node.TheVariants as node
-use Rattle.hive_model.specs.declared.expr_refusal.ExprRefusal.{ExprRefusal}
-use Rattle.hive_model.specs.declared.named.Named.{Named}
+use Rattle.text_model.specs.declared.expr_refusal.ExprRefusal.{ExprRefusal}
+use Rattle.text_model.specs.declared.named.Named.{Named}
 use Rattle.hive_model.specs.declared.product.Kind.{Kind}
 use Rattle.hive_model.specs.declared.product.Kind.TheVariants as kinds
-use Rattle.hive_model.specs.declared.token.Form.{Form}
-use Rattle.hive_model.specs.declared.token.Form.TheVariants as forms
+use Rattle.text_model.specs.declared.token.Form.{Form}
+use Rattle.text_model.specs.declared.token.Form.TheVariants as forms
 use Rattle.expr_text.specs.Assembly.{call_over, node_over, of_kind, run}
 use Rattle.expr_text.specs.Parts.{count, part, postfix, postfix_all}
 use Rattle.expr_text.specs.declared.assembly.Slot.{Slot}

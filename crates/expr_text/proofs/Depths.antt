@@ -1,17 +1,17 @@
 -- With more brackets and signs allowed a reading gives the same, unless it was too deep.
 use Rattle.std.proofs.Common.{◌≡◌, ◌⊎◌, inl, inr, ℕ, zero, suc, ◌+◌, Bool, true, false, List, [], ◌∷◌, Option, Result, Ok, Err, Some, None, refl, sym, ap, ◌∙◌, subst, arith}
 use Rattle.std.specs.Bool.{if◌then◌else◌}
-use Rattle.hive_model.specs.Grammar.{Reading, arguments, begun, begun_by, behind, bracketed, called, deeper, expr, factor, further, grouped, if_end, is_comma, is_open, is_sign, most, named, operator_at, place_at, row, signed, written_of}
-use Rattle.hive_model.specs.Steps.{◌>>=◌}
-use Rattle.hive_model.specs.Written.{Written, Operands, Bare, And}
+use Rattle.text_model.specs.Grammar.{Reading, arguments, begun, begun_by, behind, bracketed, called, deeper, expr, factor, further, grouped, if_end, is_comma, is_open, is_sign, most, named, operator_at, place_at, row, signed, written_of}
+use Rattle.text_model.specs.Steps.{◌>>=◌}
+use Rattle.text_model.specs.Written.{Written, Operands, Bare, And}
 use Rattle.hive_model.specs.declared.expr.Binary.{Binary}
-use Rattle.hive_model.specs.declared.expr_refusal.ExprRefusal.{ExprRefusal}
-use Rattle.hive_model.specs.declared.expr_refusal.ExprRefusal.TheVariants.{Unexpected}
-use Rattle.hive_model.specs.declared.token.Level.{Level}
-use Rattle.hive_model.specs.declared.token.Level.TheVariants.{Compare, Sum, Product}
-use Rattle.hive_model.specs.declared.token.Symbol.{Symbol}
-use Rattle.hive_model.specs.declared.token.Symbol.TheVariants.{Number, Name, Operator, Open, Close, Comma}
-use Rattle.hive_model.specs.declared.token.Token.{Token}
+use Rattle.text_model.specs.declared.expr_refusal.ExprRefusal.{ExprRefusal}
+use Rattle.text_model.specs.declared.expr_refusal.ExprRefusal.TheVariants.{Unexpected}
+use Rattle.text_model.specs.declared.token.Level.{Level}
+use Rattle.text_model.specs.declared.token.Level.TheVariants.{Compare, Sum, Product}
+use Rattle.text_model.specs.declared.token.Symbol.{Symbol}
+use Rattle.text_model.specs.declared.token.Symbol.TheVariants.{Number, Name, Operator, Open, Close, Comma}
+use Rattle.text_model.specs.declared.token.Token.{Token}
 use Rattle.expr_text.proofs.Steady.{IsDeep}
 
 -- the other is the same, unless the first is too deep

@@ -1,12 +1,12 @@
 -- Tokens stop at one place at most, so where they stop they are refused.
 use Rattle.std.proofs.Common.{◌≡◌, ◌⊎◌, inl, inr, ℕ, suc, List, [], ◌∷◌, ◌++◌, Result, Ok, Err, refl, sym, ap, ◌∙◌, subst}
 use Rattle.std.proofs.lemmas.List.{append_assoc, append-nil}
-use Rattle.hive_model.specs.Grammar.{written_of}
-use Rattle.hive_model.specs.GrammarRules.{IsExpr}
-use Rattle.hive_model.specs.Written.{Written}
-use Rattle.hive_model.specs.declared.expr_refusal.ExprRefusal.{ExprRefusal}
-use Rattle.hive_model.specs.declared.expr_refusal.ExprRefusal.TheVariants.{Unexpected, TooDeep}
-use Rattle.hive_model.specs.declared.token.Token.{Token}
+use Rattle.text_model.specs.Grammar.{written_of}
+use Rattle.text_model.specs.GrammarRules.{IsExpr}
+use Rattle.text_model.specs.Written.{Written}
+use Rattle.text_model.specs.declared.expr_refusal.ExprRefusal.{ExprRefusal}
+use Rattle.text_model.specs.declared.expr_refusal.ExprRefusal.TheVariants.{Unexpected, TooDeep}
+use Rattle.text_model.specs.declared.token.Token.{Token}
 use Rattle.expr_text.specs.Stops.{Begins, StopsAt, IsUnexpectedAt, IsTooDeepAt, IsUnfinished}
 use Rattle.expr_text.proofs.ReadRules.{read-rules}
 use Rattle.expr_text.proofs.Refusals.{refused-unexpected, refused-deep, refused-only}

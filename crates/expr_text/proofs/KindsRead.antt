@@ -2,18 +2,19 @@
 use Rattle.std.proofs.Common.{◌≡◌, ℕ, ◌+◌, ◌≤◌, Bool, true, false, cond, List, [], ◌∷◌, ◌++◌, Option, Ok, Some, None, ◌⊎◌, inl, inr, refl, sym, ap, ◌∙◌, arith}
 use Rattle.std.specs.List.{AllByRecursion}
 use Rattle.std.specs.Option.{option_and_then}
-use Rattle.hive_model.specs.ExprText.{function_of, handle_of, is_kind, of_some_kind, piece, same_text, tree_over, tree_written, trees_written}
-use Rattle.hive_model.specs.Steps.{◌>>=◌, or_refuse}
+use Rattle.text_model.specs.ExprText.{function_of, handle_of, of_some_kind, piece, tree_over, tree_written, trees_written}
+use Rattle.hive_model.specs.Same.{same_kind, same_text}
+use Rattle.text_model.specs.Steps.{◌>>=◌, or_refuse}
 use Rattle.hive_model.specs.Tree.{Tree, Literal, Held, Minus, Operation, Unary, Dual, nodes_of, size as tree_size}
-use Rattle.hive_model.specs.Valid.{IsExpression, if_num, one_kind, two_kind, tree_kind}
-use Rattle.hive_model.specs.Written.{Written, Operands, Over, Bare, And, size, size_all}
-use Rattle.hive_model.specs.declared.expr_refusal.ExprRefusal.{ExprRefusal}
-use Rattle.hive_model.specs.declared.expr_refusal.ExprRefusal.TheVariants as refusals
-use Rattle.hive_model.specs.declared.named.Named.{Named}
+use Rattle.hive_model.specs.Kinds.{IsExpression, if_num, one_kind, two_kind, tree_kind}
+use Rattle.text_model.specs.Written.{Written, Operands, Over, Bare, And, size, size_all}
+use Rattle.text_model.specs.declared.expr_refusal.ExprRefusal.{ExprRefusal}
+use Rattle.text_model.specs.declared.expr_refusal.ExprRefusal.TheVariants as refusals
+use Rattle.text_model.specs.declared.named.Named.{Named}
 use Rattle.hive_model.specs.declared.product.Kind.{Kind}
 use Rattle.hive_model.specs.declared.product.Kind.TheVariants as kinds
-use Rattle.hive_model.specs.declared.token.Form.{Form}
-use Rattle.hive_model.specs.declared.token.Form.TheVariants as forms
+use Rattle.text_model.specs.declared.token.Form.{Form}
+use Rattle.text_model.specs.declared.token.Form.TheVariants as forms
 use Rattle.expr_text.specs.Known.{Knows}
 use Rattle.expr_text.proofs.Assembling.{bind_ok, sizes}
 
@@ -97,14 +98,14 @@ mutual
       let final = tree_written-read see text names last end.0 known end.1 in
       rw (← all) (haves-push see front.0 end.0 read.0 final.kind_is, sizes-push front.0 end.0 ∙ omega (arith, read.1, final.size_is))
 
-is_kind-same : (k l : Kind) → is_kind k l ≡ true → k ≡ l
+is_kind-same : (k l : Kind) → same_kind k l ≡ true → k ≡ l
 is_kind-same kinds.Num kinds.Num h = refl
 is_kind-same kinds.Num kinds.List h = absurd cc
 is_kind-same kinds.List kinds.Num h = absurd cc
 is_kind-same kinds.List kinds.List h = refl
 
 -- the nodes are an expression of the wanted kind
-pub read-valid : (see : ℕ → Option Kind) (text : List ℕ) (names : List Named) (wanted : Kind) (w : Written) (t : Tree) (k : Kind) → Knows see names → size w ≤ 256 → tree_written text names w ≡ Ok (t, k) → is_kind wanted k ≡ true → IsExpression see wanted (nodes_of t)
+pub read-valid : (see : ℕ → Option Kind) (text : List ℕ) (names : List Named) (wanted : Kind) (w : Written) (t : Tree) (k : Kind) → Knows see names → size w ≤ 256 → tree_written text names w ≡ Ok (t, k) → same_kind wanted k ≡ true → IsExpression see wanted (nodes_of t)
 read-valid see text names wanted w t k known few h e =
     let read = tree_written-read see text names w (t, k) known h in
     (t, refl, read.kind_is ∙ ap Some (sym (is_kind-same wanted k e)), omega (arith, read.size_is))

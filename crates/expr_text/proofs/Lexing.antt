@@ -9,12 +9,12 @@ use Rattle.std.proofs.lemmas.Bool.Decides.{nat_tests}
 use Rattle.std.proofs.lemmas.Fmt.{decimal_is_IsNumeral}
 use Rattle.std.proofs.lemmas.List.{drop_at, length-append}
 use Rattle.std.proofs.Math.Seq.{take-append_seam}
-use Rattle.hive_model.specs.Tokens.{is_word, literal, mark, symbol_at, tokens_from}
+use Rattle.text_model.specs.Tokens.{is_word, literal, mark, symbol_at, tokens_from}
 use Rattle.hive_model.specs.declared.expr.Binary.{Binary}
 use Rattle.hive_model.specs.declared.expr.Binary.TheVariants.{Add, Sub, Mul, Div, Rem, Eq, Ne, Lt, Le, Gt, Ge}
-use Rattle.hive_model.specs.declared.token.Symbol.{Symbol}
-use Rattle.hive_model.specs.declared.token.Symbol.TheVariants.{Number, Name, Operator, Open, Close, Comma}
-use Rattle.hive_model.specs.declared.token.Token.{Token}
+use Rattle.text_model.specs.declared.token.Symbol.{Symbol}
+use Rattle.text_model.specs.declared.token.Symbol.TheVariants.{Number, Name, Operator, Open, Close, Comma}
+use Rattle.text_model.specs.declared.token.Token.{Token}
 use Rattle.expr_text.specs.Printed.{IsName, operator_text}
 use Rattle.expr_text.proofs.TokenLists.{with_front, one_more, token_first, is_word-letter}
 

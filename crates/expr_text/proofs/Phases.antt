@@ -2,18 +2,19 @@
 use Rattle.std.proofs.Common.{◌≡◌, ℕ, ◌<◌, ◌≤◌, true, false, nat_lt, List, [], ◌∷◌, ◌++◌, length, Result, Ok, Err, Some, None, refl, sym, ap, ◌∙◌, arith}
 use Rattle.std.proofs.lemmas.Bool.Decides.{nat_tests}
 use Rattle.std.proofs.lemmas.List.{length-append}
-use Rattle.hive_model.specs.ExprText.{expr_of, if_known, if_wanted, is_kind, tree_of_kind, tree_written, unknown_name}
-use Rattle.hive_model.specs.Grammar.{written_of}
-use Rattle.hive_model.specs.Steps.{◌>>=◌}
-use Rattle.hive_model.specs.Tokens.{tokens_of}
+use Rattle.text_model.specs.ExprText.{expr_of, if_known, if_wanted, tree_of_kind, tree_written, unknown_name}
+use Rattle.hive_model.specs.Same.{same_kind}
+use Rattle.text_model.specs.Grammar.{written_of}
+use Rattle.text_model.specs.Steps.{◌>>=◌}
+use Rattle.text_model.specs.Tokens.{tokens_of}
 use Rattle.hive_model.specs.Tree.{Tree, nodes_of}
-use Rattle.hive_model.specs.Written.{Written, Operands, Over, Bare, And, place_of, size, size_all}
+use Rattle.text_model.specs.Written.{Written, Operands, Over, Bare, And, place_of, size, size_all}
 use Rattle.hive_model.specs.declared.expr.Node.{Node}
-use Rattle.hive_model.specs.declared.expr_refusal.ExprRefusal.{ExprRefusal}
-use Rattle.hive_model.specs.declared.expr_refusal.ExprRefusal.TheVariants as refusals
-use Rattle.hive_model.specs.declared.named.Named.{Named}
+use Rattle.text_model.specs.declared.expr_refusal.ExprRefusal.{ExprRefusal}
+use Rattle.text_model.specs.declared.expr_refusal.ExprRefusal.TheVariants as refusals
+use Rattle.text_model.specs.declared.named.Named.{Named}
 use Rattle.hive_model.specs.declared.product.Kind.{Kind}
-use Rattle.hive_model.specs.declared.token.Token.{Token}
+use Rattle.text_model.specs.declared.token.Token.{Token}
 use Rattle.expr_text.proofs.Assembling.{bind_ok, run-written, slot}
 use Rattle.expr_text.specs.Assembly.{run}
 use Rattle.expr_text.specs.Parts.{count, part, postfix, postfix_all}
@@ -101,10 +102,10 @@ tree-read text names w nodes slots h =
     record { tree = found.0.0; kind = found.0.1; written = found.1; nodes_are = parts.0; slots_are = parts.1 }
 
 -- the kind of the waiting operand decides
-pub tree_of_kind-wanted : (text : List ℕ) (names : List Named) (wanted : Kind) (w : Written) (t : Tree) (k : Kind) → size w ≤ 256 → tree_written text names w ≡ Ok (t, k) → is_kind wanted k ≡ true → tree_of_kind text names wanted w ≡ Ok t
+pub tree_of_kind-wanted : (text : List ℕ) (names : List Named) (wanted : Kind) (w : Written) (t : Tree) (k : Kind) → size w ≤ 256 → tree_written text names w ≡ Ok (t, k) → same_kind wanted k ≡ true → tree_of_kind text names wanted w ≡ Ok t
 tree_of_kind-wanted text names wanted w t k h r e = tree_of_kind-few text names wanted w h ∙ rw r (rw e refl)
 
-pub tree_of_kind-unwanted : (text : List ℕ) (names : List Named) (wanted : Kind) (w : Written) (t : Tree) (k : Kind) → size w ≤ 256 → tree_written text names w ≡ Ok (t, k) → is_kind wanted k ≡ false → tree_of_kind text names wanted w ≡ Err (refusals.Kind (place_of w))
+pub tree_of_kind-unwanted : (text : List ℕ) (names : List Named) (wanted : Kind) (w : Written) (t : Tree) (k : Kind) → size w ≤ 256 → tree_written text names w ≡ Ok (t, k) → same_kind wanted k ≡ false → tree_of_kind text names wanted w ≡ Err (refusals.Kind (place_of w))
 tree_of_kind-unwanted text names wanted w t k h r e = tree_of_kind-few text names wanted w h ∙ rw r (rw e refl)
 
 pub tree_of_kind-refused : (text : List ℕ) (names : List Named) (wanted : Kind) (w : Written) (e : ExprRefusal) → size w ≤ 256 → tree_written text names w ≡ Err e → tree_of_kind text names wanted w ≡ Err e

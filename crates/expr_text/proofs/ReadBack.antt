@@ -4,23 +4,24 @@ use Rattle.std.specs.List.{AllByRecursion, IsDistinct}
 use Rattle.std.specs.Option.{option_map_or, option_and_then}
 use Rattle.std.proofs.lemmas.List.{append_assoc, append-nil, drop-drop, drop_at, length-append}
 use Rattle.std.proofs.Math.Seq.{take-append_seam}
-use Rattle.hive_model.specs.ExprText.{expr_of, is_kind, function_of, handle_of, piece, same_text, tree_over, tree_written, unknown_name}
-use Rattle.hive_model.specs.Grammar.{Reading, arguments, behind, behind_close, expr, factor, is_open, operation}
-use Rattle.hive_model.specs.Tokens.{tokens_from, tokens_of}
+use Rattle.text_model.specs.ExprText.{expr_of, function_of, handle_of, piece, tree_over, tree_written, unknown_name}
+use Rattle.hive_model.specs.Same.{same_kind, same_text}
+use Rattle.text_model.specs.Grammar.{Reading, arguments, behind, behind_close, expr, factor, is_open, operation}
+use Rattle.text_model.specs.Tokens.{tokens_from, tokens_of}
 use Rattle.hive_model.specs.Tree.{Tree, Literal, Held, Minus, Operation, Unary, Dual, size as tree_size}
-use Rattle.hive_model.specs.Valid.{if_num, one_kind, two_kind, tree_kind}
-use Rattle.hive_model.specs.Written.{Written, Operands, Over, Bare, And, size}
+use Rattle.hive_model.specs.Kinds.{if_num, one_kind, two_kind, tree_kind}
+use Rattle.text_model.specs.Written.{Written, Operands, Over, Bare, And, size}
 use Rattle.hive_model.specs.declared.expr.Binary.{Binary}
 use Rattle.hive_model.specs.declared.expr.Binary.TheVariants.{Add, Sub, Mul, Div, Rem, Eq, Ne, Lt, Le, Gt, Ge}
 use Rattle.hive_model.specs.declared.expr.Function.{Function}
 use Rattle.hive_model.specs.declared.expr.Function.TheVariants as functions
-use Rattle.hive_model.specs.declared.expr_refusal.ExprRefusal.{ExprRefusal}
-use Rattle.hive_model.specs.declared.named.Named.{Named}
+use Rattle.text_model.specs.declared.expr_refusal.ExprRefusal.{ExprRefusal}
+use Rattle.text_model.specs.declared.named.Named.{Named}
 use Rattle.hive_model.specs.declared.product.Kind.{Kind}
 use Rattle.hive_model.specs.declared.product.Kind.TheVariants as kinds
-use Rattle.hive_model.specs.declared.token.Form.TheVariants as forms
-use Rattle.hive_model.specs.declared.token.Symbol.TheVariants.{Number, Name, Operator, Open, Close, Comma}
-use Rattle.hive_model.specs.declared.token.Token.{Token}
+use Rattle.text_model.specs.declared.token.Form.TheVariants as forms
+use Rattle.text_model.specs.declared.token.Symbol.TheVariants.{Number, Name, Operator, Open, Close, Comma}
+use Rattle.text_model.specs.declared.token.Token.{Token}
 use Rattle.expr_text.specs.Printed.{HasLiterals, IsName, IsPrintable, enclosed, enclosed_nesting, function_text, is_compound, kind_named, nesting, operator_text, printed, word_of}
 use Rattle.expr_text.proofs.Lexing.{Stops, token, lex-name, lex-number, lex-sign, lex-open, lex-close, lex-comma, lex-operator}
 use Rattle.expr_text.proofs.Readings.{factor-begun, signed-read, bracketed-read, arguments-begin, further-more, further-end, called-read, named-leaf, named-call, written-end}
@@ -410,9 +411,9 @@ read_back text names stop (Operation op l r) all lit = operation_back text names
 read_back text names stop (Unary f t) all lit = from_alone text names stop (Unary f t) (unary_back text names stop f t (read_back text names stop t all lit))
 read_back text names stop (Dual f l r) all lit = from_alone text names stop (Dual f l r) (dual_back text names stop f l r (read_back text names stop l all lit.0) (read_back text names stop r all lit.1))
 
-same_kind : (k : Kind) → is_kind k k ≡ true
-same_kind kinds.Num = refl
-same_kind kinds.List = refl
+kind-itself : (k : Kind) → same_kind k k ≡ true
+kind-itself kinds.Num = refl
+kind-itself kinds.List = refl
 
 -- the text of a printable tree is read as the tree, where it is within the limits of texts
 pub expr_of-printed : (names : List Named) (t : Tree) (k : Kind) → IsPrintable names t k → length (printed names t) ≤ 1024 → nesting t ≤ 64 → expr_of (printed names t) names k ≡ Ok t
@@ -426,4 +427,4 @@ expr_of-printed names t k is short nest =
     let lexed : tokens_of text ≡ Ok it.tokens = ap (tokens_from 0 0) (sym whole) ∙ it.lexed_is in
     let read = written-end (length text) 64 it.tokens [] it.written it.read_is refl in
     expr_of-known text names k it.tokens it.written short lexed read it.known
-    ∙ tree_of_kind-wanted text names k it.written t k (omega (arith, it.sized, is.few)) it.tree_is (same_kind k)
+    ∙ tree_of_kind-wanted text names k it.written t k (omega (arith, it.sized, is.few)) it.tree_is (kind-itself k)

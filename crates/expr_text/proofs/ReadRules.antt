@@ -1,19 +1,19 @@
 -- What is read follows the rules of the grammar.
 use Rattle.std.proofs.Common.{◌≡◌, ℕ, zero, suc, Bool, true, false, List, [], ◌∷◌, length, Option, Result, Ok, Err, Some, None, refl, sym, ap, ◌∙◌, subst}
-use Rattle.hive_model.specs.Grammar.{Reading, arguments, begun_by, behind, behind_close, bracketed, called, expr, factor, further, grouped, if_end, is_close, is_comma, is_of, is_open, most, named, operation, operator_at, place_at, row, signed, written_of}
-use Rattle.hive_model.specs.GrammarRules.{IsFactor, number, handle, sign, brackets, call, IsTerm, factor_alone, times, IsSum, term_alone, plus, IsExpr, sum_alone, compare, AreExprs, expr_alone, comma, token}
-use Rattle.hive_model.specs.Steps.{◌>>=◌, or_refuse}
-use Rattle.hive_model.specs.Written.{Written, Operands, Over, Bare, And}
+use Rattle.text_model.specs.Grammar.{Reading, arguments, begun_by, behind, behind_close, bracketed, called, expr, factor, further, grouped, if_end, is_close, is_comma, is_of, is_open, most, named, operation, operator_at, place_at, row, signed, written_of}
+use Rattle.text_model.specs.GrammarRules.{IsFactor, number, handle, sign, brackets, call, IsTerm, factor_alone, times, IsSum, term_alone, plus, IsExpr, sum_alone, compare, AreExprs, expr_alone, comma, token}
+use Rattle.text_model.specs.Steps.{◌>>=◌, or_refuse}
+use Rattle.text_model.specs.Written.{Written, Operands, Over, Bare, And}
 use Rattle.hive_model.specs.declared.expr.Binary.{Binary}
 use Rattle.hive_model.specs.declared.expr.Binary.TheVariants.{Add, Sub, Mul, Div, Rem, Eq, Ne, Lt, Le, Gt, Ge}
-use Rattle.hive_model.specs.declared.expr_refusal.ExprRefusal.{ExprRefusal}
-use Rattle.hive_model.specs.declared.expr_refusal.ExprRefusal.TheVariants.{Unexpected}
-use Rattle.hive_model.specs.declared.token.Form.TheVariants as forms
-use Rattle.hive_model.specs.declared.token.Level.{Level}
-use Rattle.hive_model.specs.declared.token.Level.TheVariants.{Compare, Sum, Product}
-use Rattle.hive_model.specs.declared.token.Symbol.{Symbol}
-use Rattle.hive_model.specs.declared.token.Symbol.TheVariants.{Number, Name, Operator, Open, Close, Comma}
-use Rattle.hive_model.specs.declared.token.Token.{Token}
+use Rattle.text_model.specs.declared.expr_refusal.ExprRefusal.{ExprRefusal}
+use Rattle.text_model.specs.declared.expr_refusal.ExprRefusal.TheVariants.{Unexpected}
+use Rattle.text_model.specs.declared.token.Form.TheVariants as forms
+use Rattle.text_model.specs.declared.token.Level.{Level}
+use Rattle.text_model.specs.declared.token.Level.TheVariants.{Compare, Sum, Product}
+use Rattle.text_model.specs.declared.token.Symbol.{Symbol}
+use Rattle.text_model.specs.declared.token.Symbol.TheVariants.{Number, Name, Operator, Open, Close, Comma}
+use Rattle.text_model.specs.declared.token.Token.{Token}
 use Rattle.expr_text.proofs.Assembling.{bind_ok}
 
 -- two readings that are one

@@ -1,14 +1,14 @@
 -- The steps of a reading: what the whole gives, from what its first part gives.
 use Rattle.std.proofs.Common.{◌≡◌, ℕ, zero, suc, ◌+◌, ◌<◌, List, [], ◌∷◌, ◌++◌, length, Option, Ok, Err, Some, None, refl, ap, arith}
 use Rattle.std.proofs.lemmas.List.{append_assoc}
-use Rattle.hive_model.specs.Grammar.{Reading, arguments, begun, behind, behind_close, bracketed, called, deeper, expr, factor, further, grouped, is_comma, is_open, leaf, most, named, operation, operator_at, place_at, row, signed, written_of}
-use Rattle.hive_model.specs.Written.{Written, Operands, Over, Bare, And}
+use Rattle.text_model.specs.Grammar.{Reading, arguments, begun, behind, behind_close, bracketed, called, deeper, expr, factor, further, grouped, is_comma, is_open, leaf, most, named, operation, operator_at, place_at, row, signed, written_of}
+use Rattle.text_model.specs.Written.{Written, Operands, Over, Bare, And}
 use Rattle.hive_model.specs.declared.expr.Binary.{Binary}
-use Rattle.hive_model.specs.declared.expr_refusal.ExprRefusal.{ExprRefusal}
-use Rattle.hive_model.specs.declared.expr_refusal.ExprRefusal.TheVariants.{Unexpected}
-use Rattle.hive_model.specs.declared.token.Form.TheVariants as forms
-use Rattle.hive_model.specs.declared.token.Level.{Level}
-use Rattle.hive_model.specs.declared.token.Token.{Token}
+use Rattle.text_model.specs.declared.expr_refusal.ExprRefusal.{ExprRefusal}
+use Rattle.text_model.specs.declared.expr_refusal.ExprRefusal.TheVariants.{Unexpected}
+use Rattle.text_model.specs.declared.token.Form.TheVariants as forms
+use Rattle.text_model.specs.declared.token.Level.{Level}
+use Rattle.text_model.specs.declared.token.Token.{Token}
 use Rattle.expr_text.specs.declared.grammar.Part.{Part}
 use Rattle.expr_text.specs.Parts.{below, part, postfix}
 

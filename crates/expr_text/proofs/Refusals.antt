@@ -1,13 +1,13 @@
 -- A refusal stands at the first token with which no expression goes on.
 use Rattle.std.proofs.Common.{◌≡◌, ◌⊎◌, inl, inr, ℕ, zero, suc, List, [], ◌∷◌, ◌++◌, Result, Ok, Err, refl, sym, ap, ◌∙◌, subst}
 use Rattle.std.proofs.lemmas.List.{append_assoc, append-nil}
-use Rattle.hive_model.specs.Grammar.{expr, factor, if_end, written_of}
-use Rattle.hive_model.specs.GrammarRules.{IsExpr}
-use Rattle.hive_model.specs.Steps.{◌>>=◌}
-use Rattle.hive_model.specs.Written.{Written}
-use Rattle.hive_model.specs.declared.expr_refusal.ExprRefusal.{ExprRefusal}
-use Rattle.hive_model.specs.declared.expr_refusal.ExprRefusal.TheVariants.{Unexpected, TooDeep}
-use Rattle.hive_model.specs.declared.token.Token.{Token}
+use Rattle.text_model.specs.Grammar.{expr, factor, if_end, written_of}
+use Rattle.text_model.specs.GrammarRules.{IsExpr}
+use Rattle.text_model.specs.Steps.{◌>>=◌}
+use Rattle.text_model.specs.Written.{Written}
+use Rattle.text_model.specs.declared.expr_refusal.ExprRefusal.{ExprRefusal}
+use Rattle.text_model.specs.declared.expr_refusal.ExprRefusal.TheVariants.{Unexpected, TooDeep}
+use Rattle.text_model.specs.declared.token.Token.{Token}
 use Rattle.expr_text.specs.Stops.{Begins, IsUnexpectedAt, IsTooDeepAt, IsUnfinished, IsOfGrammar}
 use Rattle.expr_text.proofs.Depths.{never-read}
 use Rattle.expr_text.proofs.RulesRead.{rules-read}

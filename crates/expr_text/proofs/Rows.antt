@@ -1,14 +1,14 @@
 -- Rows of one and of two operands, and what ends them.
 use Rattle.std.proofs.Common.{◌≡◌, ℕ, ◌+◌, ◌-◌, true, false, List, [], ◌∷◌, Ok, Some, None, refl, ◌∙◌, arith}
-use Rattle.hive_model.specs.Grammar.{Reading, behind, expr, is_of, is_open, most, operation, operator_at, operator_of, row}
-use Rattle.hive_model.specs.Written.{Written}
+use Rattle.text_model.specs.Grammar.{Reading, behind, expr, is_of, is_open, most, operation, operator_at, operator_of, row}
+use Rattle.text_model.specs.Written.{Written}
 use Rattle.hive_model.specs.declared.expr.Binary.{Binary}
 use Rattle.hive_model.specs.declared.expr.Binary.TheVariants.{Add, Sub, Mul, Div, Rem, Eq, Ne, Lt, Le, Gt, Ge}
-use Rattle.hive_model.specs.declared.token.Level.{Level}
-use Rattle.hive_model.specs.declared.token.Level.TheVariants.{Compare, Sum, Product}
-use Rattle.hive_model.specs.declared.token.Symbol.{Symbol}
-use Rattle.hive_model.specs.declared.token.Symbol.TheVariants.{Number, Name, Operator, Open, Close, Comma}
-use Rattle.hive_model.specs.declared.token.Token.{Token}
+use Rattle.text_model.specs.declared.token.Level.{Level}
+use Rattle.text_model.specs.declared.token.Level.TheVariants.{Compare, Sum, Product}
+use Rattle.text_model.specs.declared.token.Symbol.{Symbol}
+use Rattle.text_model.specs.declared.token.Symbol.TheVariants.{Number, Name, Operator, Open, Close, Comma}
+use Rattle.text_model.specs.declared.token.Token.{Token}
 use Rattle.expr_text.proofs.Lexing.{token}
 use Rattle.expr_text.proofs.Readings.{row-begins, grouped-more, grouped-end}
 

@@ -1,13 +1,13 @@
 -- What follows the rules of the grammar is read so.
 use Rattle.std.proofs.Common.{◌≡◌, ℕ, suc, ◌-◌, ◌≤◌, true, false, List, [], ◌∷◌, length, Ok, None, refl, ◌∙◌, arith}
-use Rattle.hive_model.specs.Grammar.{Reading, arguments, expr, factor, further, grouped, is_of, operator_at, row, written_of}
-use Rattle.hive_model.specs.GrammarRules.{IsFactor, number, handle, sign, brackets, call, IsTerm, factor_alone, times, IsSum, term_alone, plus, IsExpr, sum_alone, compare, AreExprs, expr_alone, comma, token}
-use Rattle.hive_model.specs.Written.{Written, Operands}
+use Rattle.text_model.specs.Grammar.{Reading, arguments, expr, factor, further, grouped, is_of, operator_at, row, written_of}
+use Rattle.text_model.specs.GrammarRules.{IsFactor, number, handle, sign, brackets, call, IsTerm, factor_alone, times, IsSum, term_alone, plus, IsExpr, sum_alone, compare, AreExprs, expr_alone, comma, token}
+use Rattle.text_model.specs.Written.{Written, Operands}
 use Rattle.hive_model.specs.declared.expr.Binary.{Binary}
 use Rattle.hive_model.specs.declared.expr.Binary.TheVariants.{Add, Sub, Mul, Div, Rem, Eq, Ne, Lt, Le, Gt, Ge}
-use Rattle.hive_model.specs.declared.token.Level.TheVariants.{Compare, Sum, Product}
-use Rattle.hive_model.specs.declared.token.Symbol.TheVariants.{Number, Name, Operator, Open, Close, Comma}
-use Rattle.hive_model.specs.declared.token.Token.{Token}
+use Rattle.text_model.specs.declared.token.Level.TheVariants.{Compare, Sum, Product}
+use Rattle.text_model.specs.declared.token.Symbol.TheVariants.{Number, Name, Operator, Open, Close, Comma}
+use Rattle.text_model.specs.declared.token.Token.{Token}
 use Rattle.expr_text.proofs.Readings.{row-begins, grouped-more, grouped-end, factor-begun, signed-read, bracketed-read, arguments-begin, further-more, further-end, named-leaf, written-end}
 use Rattle.expr_text.proofs.ReadBack.{NotOpen, call-read}
 use Rattle.expr_text.proofs.Rows.{Ends, ends-open, ends-operator, row_alone, row_two, operator-other, operator-there}

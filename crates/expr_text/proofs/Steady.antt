@@ -2,11 +2,11 @@
 -- whatever stands behind that token; and what it took before a refusal can be completed.
 use Rattle.std.proofs.Common.{◌≡◌, ℕ, suc, ◌≤◌, List, [], ◌∷◌, ◌++◌, length, Result, Ok, Err, refl, sym, ap, ◌∙◌, subst, arith}
 use Rattle.std.proofs.lemmas.List.{append_assoc, length-append}
-use Rattle.hive_model.specs.Grammar.{place_at}
-use Rattle.hive_model.specs.Steps.{◌>>=◌}
-use Rattle.hive_model.specs.declared.expr_refusal.ExprRefusal.{ExprRefusal}
-use Rattle.hive_model.specs.declared.expr_refusal.ExprRefusal.TheVariants.{Unexpected, TooDeep}
-use Rattle.hive_model.specs.declared.token.Token.{Token}
+use Rattle.text_model.specs.Grammar.{place_at}
+use Rattle.text_model.specs.Steps.{◌>>=◌}
+use Rattle.text_model.specs.declared.expr_refusal.ExprRefusal.{ExprRefusal}
+use Rattle.text_model.specs.declared.expr_refusal.ExprRefusal.TheVariants.{Unexpected, TooDeep}
+use Rattle.text_model.specs.declared.token.Token.{Token}
 use Rattle.expr_text.specs.Stops.{Opens}
 
 -- a reading that gives an A and the tokens behind it

@@ -1,17 +1,17 @@
 -- Factors, operands of functions and whole expressions are steady readings.
 use Rattle.std.proofs.Common.{◌≡◌, ℕ, zero, suc, ◌+◌, ◌≤◌, pos, Bool, true, false, List, [], ◌∷◌, ◌++◌, length, Option, Ok, Err, Some, None, refl, sym, ap, ◌∙◌, subst, arith}
 use Rattle.std.proofs.lemmas.List.{append_assoc}
-use Rattle.hive_model.specs.Grammar.{Reading, arguments, begun, begun_by, behind, behind_close, bracketed, called, expr, factor, further, is_comma, is_open, named, place_at, signed}
-use Rattle.hive_model.specs.GrammarRules.{IsFactor, number, handle, sign, brackets, call, factor_alone, term_alone, IsExpr, sum_alone, AreExprs, expr_alone, comma}
-use Rattle.hive_model.specs.Steps.{◌>>=◌}
-use Rattle.hive_model.specs.Written.{Written, Operands, Over, Bare, And}
+use Rattle.text_model.specs.Grammar.{Reading, arguments, begun, begun_by, behind, behind_close, bracketed, called, expr, factor, further, is_comma, is_open, named, place_at, signed}
+use Rattle.text_model.specs.GrammarRules.{IsFactor, number, handle, sign, brackets, call, factor_alone, term_alone, IsExpr, sum_alone, AreExprs, expr_alone, comma}
+use Rattle.text_model.specs.Steps.{◌>>=◌}
+use Rattle.text_model.specs.Written.{Written, Operands, Over, Bare, And}
 use Rattle.hive_model.specs.declared.expr.Binary.{Binary}
 use Rattle.hive_model.specs.declared.expr.Binary.TheVariants.{Add, Sub, Mul, Div, Rem, Eq, Ne, Lt, Le, Gt, Ge}
-use Rattle.hive_model.specs.declared.expr_refusal.ExprRefusal.TheVariants.{Unexpected, TooDeep}
-use Rattle.hive_model.specs.declared.token.Form.TheVariants as forms
-use Rattle.hive_model.specs.declared.token.Symbol.{Symbol}
-use Rattle.hive_model.specs.declared.token.Symbol.TheVariants.{Number, Name, Operator, Open, Close, Comma}
-use Rattle.hive_model.specs.declared.token.Token.{Token}
+use Rattle.text_model.specs.declared.expr_refusal.ExprRefusal.TheVariants.{Unexpected, TooDeep}
+use Rattle.text_model.specs.declared.token.Form.TheVariants as forms
+use Rattle.text_model.specs.declared.token.Symbol.{Symbol}
+use Rattle.text_model.specs.declared.token.Symbol.TheVariants.{Number, Name, Operator, Open, Close, Comma}
+use Rattle.text_model.specs.declared.token.Token.{Token}
 use Rattle.expr_text.specs.Parts.{below}
 use Rattle.expr_text.proofs.Lexing.{token}
 use Rattle.expr_text.proofs.ReadRules.{behind_is, comma_only, open_only}

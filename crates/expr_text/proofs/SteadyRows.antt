@@ -1,15 +1,15 @@
 -- Rows of operators are steady readings where their operands are.
 use Rattle.std.proofs.Common.{◌≡◌, ℕ, zero, suc, ◌+◌, ◌≤◌, true, List, [], ◌∷◌, ◌++◌, length, Option, Ok, Some, None, refl, sym, ap, ◌∙◌, subst, arith}
 use Rattle.std.specs.Option.{option_map_or}
-use Rattle.hive_model.specs.Grammar.{Reading, expr, grouped, is_of, operation, operator_at, operator_of, row}
-use Rattle.hive_model.specs.GrammarRules.{IsFactor, IsTerm, factor_alone, times, IsSum, term_alone, plus, IsExpr, sum_alone, compare}
-use Rattle.hive_model.specs.Steps.{◌>>=◌}
-use Rattle.hive_model.specs.Written.{Written}
+use Rattle.text_model.specs.Grammar.{Reading, expr, grouped, is_of, operation, operator_at, operator_of, row}
+use Rattle.text_model.specs.GrammarRules.{IsFactor, IsTerm, factor_alone, times, IsSum, term_alone, plus, IsExpr, sum_alone, compare}
+use Rattle.text_model.specs.Steps.{◌>>=◌}
+use Rattle.text_model.specs.Written.{Written}
 use Rattle.hive_model.specs.declared.expr.Binary.{Binary}
-use Rattle.hive_model.specs.declared.token.Level.{Level}
-use Rattle.hive_model.specs.declared.token.Level.TheVariants.{Compare, Sum, Product}
-use Rattle.hive_model.specs.declared.token.Symbol.TheVariants.{Operator}
-use Rattle.hive_model.specs.declared.token.Token.{Token}
+use Rattle.text_model.specs.declared.token.Level.{Level}
+use Rattle.text_model.specs.declared.token.Level.TheVariants.{Compare, Sum, Product}
+use Rattle.text_model.specs.declared.token.Symbol.TheVariants.{Operator}
+use Rattle.text_model.specs.declared.token.Token.{Token}
 use Rattle.expr_text.proofs.Lexing.{token}
 use Rattle.expr_text.proofs.ReadRules.{begins, operator-nothing}
 use Rattle.expr_text.proofs.Readings.{grouped-end}

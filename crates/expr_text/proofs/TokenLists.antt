@@ -6,12 +6,12 @@ use Rattle.std.proofs.lemmas.Bool.Decides.{nat_tests}
 use Rattle.std.proofs.lemmas.List.{at_drop_more, append_assoc, append-nil, drop-drop, drop_all}
 use Rattle.std.proofs.lemmas.List.Sums.{prefix_len_passes}
 use Rattle.std.proofs.Math.Seq.{drop-cons}
-use Rattle.hive_model.specs.Steps.{◌>>=◌}
+use Rattle.text_model.specs.Steps.{◌>>=◌}
 use Rattle.std.proofs.lemmas.List.Folds.{length-prefix_len}
-use Rattle.hive_model.specs.Tokens.{is_word, symbol_at, tokens_from}
-use Rattle.hive_model.specs.declared.expr_refusal.ExprRefusal.{ExprRefusal}
-use Rattle.hive_model.specs.declared.token.Symbol.{Symbol}
-use Rattle.hive_model.specs.declared.token.Token.{Token}
+use Rattle.text_model.specs.Tokens.{is_word, symbol_at, tokens_from}
+use Rattle.text_model.specs.declared.expr_refusal.ExprRefusal.{ExprRefusal}
+use Rattle.text_model.specs.declared.token.Symbol.{Symbol}
+use Rattle.text_model.specs.declared.token.Token.{Token}
 
 -- the tokens that were read before these
 abbrev pub with_front : List Token → Result (List Token) ExprRefusal → Result (List Token) ExprRefusal

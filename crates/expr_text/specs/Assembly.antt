@@ -1,18 +1,18 @@
 -- How parts in a row become nodes: each part takes its operands from the end of those that wait, and waits itself.
 use Rattle.std.specs.Prelude.{ℕ, ◌-◌, ◌==◌, if◌then◌else◌, List, [], ◌∷◌, ◌++◌, length, take, drop, Option, Some, None, Result, Ok, Err}
 use Rattle.std.specs.Option.{option_and_then, option_map, option_map_or}
-use Rattle.hive_model.specs.ExprText.{function_of, handle_of, number_and_kind, of_some_kind, piece}
-use Rattle.hive_model.specs.Steps.{◌>>=◌, or_refuse}
-use Rattle.hive_model.specs.Valid.{if_num, one_kind, two_kind}
+use Rattle.text_model.specs.ExprText.{function_of, handle_of, number_and_kind, of_some_kind, piece}
+use Rattle.text_model.specs.Steps.{◌>>=◌, or_refuse}
+use Rattle.hive_model.specs.Kinds.{if_num, one_kind, two_kind}
 use Rattle.hive_model.specs.declared.expr.Node.{Node}
 use Rattle.hive_model.specs.declared.expr.Node.TheVariants as node
-use Rattle.hive_model.specs.declared.expr_refusal.ExprRefusal.{ExprRefusal}
-use Rattle.hive_model.specs.declared.expr_refusal.ExprRefusal.TheVariants as refusals
-use Rattle.hive_model.specs.declared.named.Named.{Named}
+use Rattle.text_model.specs.declared.expr_refusal.ExprRefusal.{ExprRefusal}
+use Rattle.text_model.specs.declared.expr_refusal.ExprRefusal.TheVariants as refusals
+use Rattle.text_model.specs.declared.named.Named.{Named}
 use Rattle.hive_model.specs.declared.product.Kind.{Kind}
 use Rattle.hive_model.specs.declared.product.Kind.TheVariants as kinds
-use Rattle.hive_model.specs.declared.token.Form.{Form}
-use Rattle.hive_model.specs.declared.token.Form.TheVariants as forms
+use Rattle.text_model.specs.declared.token.Form.{Form}
+use Rattle.text_model.specs.declared.token.Form.TheVariants as forms
 use Rattle.expr_text.specs.declared.assembly.Slot.{Slot}
 use Rattle.expr_text.specs.declared.grammar.Part.{Part}
 

@@ -2,8 +2,8 @@
 use Rattle.std.specs.Prelude.{◌≡◌, ◌≢◌, List, Result, Ok, Err}
 use Rattle.hive_model.specs.Tree.{Tree, nodes_of}
 use Rattle.hive_model.specs.declared.expr.Node.{Node}
-use Rattle.hive_model.specs.declared.expr_refusal.ExprRefusal.{ExprRefusal}
-use Rattle.hive_model.specs.declared.expr_refusal.ExprRefusal.TheVariants.{NoMemory}
+use Rattle.text_model.specs.declared.expr_refusal.ExprRefusal.{ExprRefusal}
+use Rattle.text_model.specs.declared.expr_refusal.ExprRefusal.TheVariants.{NoMemory}
 
 -- the definition refuses so
 abbrev pub Refused : {A : Type 0} → Result A ExprRefusal → ExprRefusal → Type 0

@@ -1,7 +1,7 @@
 -- The kinds of handles by number, as names tell them.
 use Rattle.std.specs.Prelude.{◌≡◌, ℕ, List, Option, Some}
 use Rattle.std.specs.List.{AllByRecursion}
-use Rattle.hive_model.specs.declared.named.Named.{Named}
+use Rattle.text_model.specs.declared.named.Named.{Named}
 use Rattle.hive_model.specs.declared.product.Kind.{Kind}
 
 -- each handle that may be named has its kind

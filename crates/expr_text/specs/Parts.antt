@@ -1,10 +1,10 @@
 -- Parts in a row, operands before what they are operands of.
 use Rattle.std.specs.Prelude.{◌≡◌, ℕ, zero, suc, ◌+◌, List, [], ◌∷◌, ◌++◌, Option, Some, None, Result, Ok}
-use Rattle.hive_model.specs.Grammar.{Reading, factor}
-use Rattle.hive_model.specs.Written.{Written, Operands, Over, Bare, And}
-use Rattle.hive_model.specs.declared.expr_refusal.ExprRefusal.{ExprRefusal}
-use Rattle.hive_model.specs.declared.token.Form.{Form}
-use Rattle.hive_model.specs.declared.token.Token.{Token}
+use Rattle.text_model.specs.Grammar.{Reading, factor}
+use Rattle.text_model.specs.Written.{Written, Operands, Over, Bare, And}
+use Rattle.text_model.specs.declared.expr_refusal.ExprRefusal.{ExprRefusal}
+use Rattle.text_model.specs.declared.token.Form.{Form}
+use Rattle.text_model.specs.declared.token.Token.{Token}
 use Rattle.expr_text.specs.declared.grammar.Part.{Part}
 
 abbrev pub count : Operands → ℕ

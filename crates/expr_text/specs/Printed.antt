@@ -5,16 +5,17 @@ use Rattle.std.specs.Char.{is_ascii_alphabetic}
 use Rattle.std.specs.List.{AllByRecursion}
 use Rattle.std.specs.Fmt.{signed_decimal}
 use Rattle.std.specs.Option.{option_map_or, option_map}
-use Rattle.hive_model.specs.Tokens.{is_word}
+use Rattle.text_model.specs.Tokens.{is_word}
 use Rattle.hive_model.specs.Tree.{Tree, Literal, Held, Minus, Operation, Unary, Dual, size}
-use Rattle.hive_model.specs.Valid.{AreDistinctNames, tree_kind}
+use Rattle.hive_model.specs.Kinds.{tree_kind}
+use Rattle.hive_model.specs.Valid.{AreDistinctNames}
 use Rattle.hive_model.specs.declared.expr.Binary.{Binary}
 use Rattle.hive_model.specs.declared.expr.Binary.TheVariants.{Add, Sub, Mul, Div, Rem, Eq, Ne, Lt, Le, Gt, Ge}
 use Rattle.hive_model.specs.declared.expr.Function.{Function}
 use Rattle.hive_model.specs.declared.expr.Function.TheVariants.{Len, Sum, Min, Max, At, Above, Scale, Shift, Cat, First}
 use Rattle.hive_model.specs.declared.expr.Node.{Node}
 use Rattle.hive_model.specs.declared.expr.Node.TheVariants as node
-use Rattle.hive_model.specs.declared.named.Named.{Named}
+use Rattle.text_model.specs.declared.named.Named.{Named}
 use Rattle.hive_model.specs.declared.product.Kind.{Kind}
 
 -- the name of a handle; the first counts

@@ -1,14 +1,14 @@
 -- Where tokens stop being those of an expression, by the rules of the grammar alone: at the first one with which no expression
 -- goes on, whatever stands behind it.
 use Rattle.std.specs.Prelude.{◌≡◌, ℕ, suc, List, [], ◌∷◌, ◌++◌}
-use Rattle.hive_model.specs.GrammarRules.{IsExpr}
-use Rattle.hive_model.specs.Written.{Written}
+use Rattle.text_model.specs.GrammarRules.{IsExpr}
+use Rattle.text_model.specs.Written.{Written}
 use Rattle.hive_model.specs.declared.expr.Binary.TheVariants.{Sub}
-use Rattle.hive_model.specs.declared.expr_refusal.ExprRefusal.{ExprRefusal}
-use Rattle.hive_model.specs.declared.expr_refusal.ExprRefusal.TheVariants.{Unexpected, TooDeep}
-use Rattle.hive_model.specs.declared.token.Symbol.{Symbol}
-use Rattle.hive_model.specs.declared.token.Symbol.TheVariants.{Operator, Open}
-use Rattle.hive_model.specs.declared.token.Token.{Token}
+use Rattle.text_model.specs.declared.expr_refusal.ExprRefusal.{ExprRefusal}
+use Rattle.text_model.specs.declared.expr_refusal.ExprRefusal.TheVariants.{Unexpected, TooDeep}
+use Rattle.text_model.specs.declared.token.Symbol.{Symbol}
+use Rattle.text_model.specs.declared.token.Symbol.TheVariants.{Operator, Open}
+use Rattle.text_model.specs.declared.token.Token.{Token}
 
 -- some expression with at most `depth` brackets and signs open at once begins with the tokens
 abbrev pub Begins : ℕ → List Token → Type 0

@@ -1,14 +1,15 @@
 //! The nodes of an expression, from its parts.
 ghost use Rattle.std.specs.Prelude.{◌≡◌, ◌≤◌, ◌∷◌, ◌++◌, [], List, length, Ok, Err, Some, None, MatchResult};
 ghost use Rattle.std.specs.Option.{option_and_then};
-ghost use Rattle.hive_model.specs.Valid.{if_list, if_num, one_kind, two_kind};
+ghost use Rattle.hive_model.specs.Kinds.{if_list, if_num, one_kind, two_kind};
 ghost use Rattle.expr_text.specs.Assembly.{both, call_over, node_over, of_kind, only, run};
 ghost use Rattle.expr_text.specs.Gives.{Gives, Refused};
 
 use crate::grammar::Part;
 use crate::names::{function_of, handle_of, piece};
-use hive_model::{ExprRefusal, Form, Function, Kind, Named, Node};
+use hive_model::{Function, Kind, Node};
 use std::alloc::Global;
+use text_model::{ExprRefusal, Form, Named};
 
 /// An operand that waits for the part over it: its kind, and the place of its root among the nodes.
 #[derive(Clone, Copy, Debug)]

@@ -1,13 +1,14 @@
 //! The parts of an expression, by the grammar. The parts come operands first, so that the last one is
 //! the whole.
 ghost use Rattle.std.specs.Prelude.{◌≡◌, ◌≤◌, ◌+◌, ◌<◌, ◌∷◌, ◌++◌, [], List, length, Ok, Err, MatchResult, MatchOption, MatchBool, Some, None};
-ghost use Rattle.hive_model.specs.Grammar.{arguments, behind, behind_close, bracketed, deeper, expr, factor, is_close, is_comma, is_of, is_open, is_sign, most, named, operand, operator_at, place_at, row, signed, written_of};
-ghost use Rattle.hive_model.specs.Written.{Over, Bare};
+ghost use Rattle.text_model.specs.Grammar.{arguments, behind, behind_close, bracketed, deeper, expr, factor, is_close, is_comma, is_of, is_open, is_sign, most, named, operand, operator_at, place_at, row, signed, written_of};
+ghost use Rattle.text_model.specs.Written.{Over, Bare};
 ghost use Rattle.expr_text.specs.Gives.{Refused};
 ghost use Rattle.expr_text.specs.Parts.{HasRead, HasReadAll, HasWritten, below, postfix};
 
-use hive_model::{Binary, ExprRefusal, Form, Level, Symbol, Token};
+use hive_model::Binary;
 use std::alloc::Global;
+use text_model::{ExprRefusal, Form, Level, Symbol, Token};
 
 /// A part of an expression, and how many of the parts before it are its operands, with all that is below
 /// them.
@@ -151,7 +152,7 @@ fn is_sign(operator: Binary) -> bool
 }
 
 // The operator of a level that the tokens begin with, its place, and the tokens behind it.
-#[tactic(auto, unfolding(hive_model::specs::Grammar::operator_at))]
+#[tactic(auto, unfolding(text_model::specs::Grammar::operator_at))]
 fn operator_at(level: Level, tokens: &[Token]) -> Option<(u32, Binary, &[Token])>
     ensures { MatchOption result (operator_at level tokens.now ≡ None) (λ it. operator_at level tokens.now ≡ Some (it.0, it.1, it.2.now)) }
 {

@@ -1,11 +1,11 @@
 //! Laws of reading, as the contracts of functions that do nothing.
 ghost use Rattle.std.specs.Prelude.{◌≡◌, ◌⊎◌, ℕ, List, [], Ok, Err};
-ghost use Rattle.hive_model.specs.Grammar.{written_of};
-ghost use Rattle.hive_model.specs.GrammarRules.{IsExpr};
-ghost use Rattle.hive_model.specs.Written.{Written};
-ghost use Rattle.hive_model.specs.declared.expr_refusal.ExprRefusal.{ExprRefusal};
-ghost use Rattle.hive_model.specs.declared.expr_refusal.ExprRefusal.TheVariants.{Unexpected, TooDeep};
-ghost use Rattle.hive_model.specs.declared.token.Token.{Token};
+ghost use Rattle.text_model.specs.Grammar.{written_of};
+ghost use Rattle.text_model.specs.GrammarRules.{IsExpr};
+ghost use Rattle.text_model.specs.Written.{Written};
+ghost use Rattle.text_model.specs.declared.expr_refusal.ExprRefusal.{ExprRefusal};
+ghost use Rattle.text_model.specs.declared.expr_refusal.ExprRefusal.TheVariants.{Unexpected, TooDeep};
+ghost use Rattle.text_model.specs.declared.token.Token.{Token};
 ghost use Rattle.expr_text.specs.Stops.{IsOfGrammar, IsTooDeepAt, IsUnexpectedAt, IsUnfinished};
 
 /// What is read from tokens is exactly what the rules of the grammar say, with at most `depth` brackets and

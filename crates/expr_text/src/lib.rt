@@ -12,8 +12,6 @@ mod names;
 mod parser;
 mod printer;
 mod symbols;
-#[cfg(test)]
-mod tests;
 
-pub use parser::{DEEPEST, LONGEST, MOST_NODES, parse};
+pub use parser::parse;
 pub use printer::print;

@@ -1,10 +1,12 @@
 //! The names in an expression.
 ghost use Rattle.std.specs.Prelude.{◌≡◌, List, ℕ, Some, None, MatchOption, IsSome, is_some, nat_eq, codes, take, drop};
 ghost use Rattle.std.specs.Option.{option_map};
-ghost use Rattle.hive_model.specs.ExprText.{function_of, handle_of, is_known, is_known_symbol, number_and_kind, piece, same_text, unknown_name};
+ghost use Rattle.text_model.specs.ExprText.{function_of, handle_of, is_known, is_known_symbol, number_and_kind, piece, unknown_name};
+ghost use Rattle.hive_model.specs.Same.{same_text};
 
 use crate::grammar::{behind_open, first};
-use hive_model::{Function, Named, Symbol, Token};
+use hive_model::{Function, Kind};
+use text_model::{Named, Symbol, Token};
 
 /// That many bytes of a text, from a place on.
 pub fn piece(text: &[u8], at: u32, length: u32) -> &[u8]
@@ -16,8 +18,8 @@ pub fn piece(text: &[u8], at: u32, length: u32) -> &[u8]
 }
 
 /// The first handle of that name.
-#[tactic(auto, unfolding(hive_model::specs::ExprText::handle_of))]
-pub fn handle_of(names: &[Named], name: &[u8]) -> Option<(u16, hive_model::Kind)>
+#[tactic(auto, unfolding(text_model::specs::ExprText::handle_of))]
+pub fn handle_of(names: &[Named], name: &[u8]) -> Option<(u16, Kind)>
     ensures { result ≡ option_map number_and_kind (handle_of names.now name.now) }
 {
     for named in names {
@@ -29,33 +31,16 @@ pub fn handle_of(names: &[Named], name: &[u8]) -> Option<(u16, hive_model::Kind)
 }
 
 /// The function of that name.
-#[tactic(auto, unfolding(hive_model::specs::ExprText::function_of))]
+#[tactic(auto, unfolding(text_model::specs::ExprText::function_of))]
 pub fn function_of(name: &[u8]) -> Option<Function>
     ensures { result ≡ function_of name.now }
 {
-    if name == "len".as_bytes() {
-        Some(Function::Len)
-    } else if name == "sum".as_bytes() {
-        Some(Function::Sum)
-    } else if name == "min".as_bytes() {
-        Some(Function::Min)
-    } else if name == "max".as_bytes() {
-        Some(Function::Max)
-    } else if name == "at".as_bytes() {
-        Some(Function::At)
-    } else if name == "above".as_bytes() {
-        Some(Function::Above)
-    } else if name == "scale".as_bytes() {
-        Some(Function::Scale)
-    } else if name == "shift".as_bytes() {
-        Some(Function::Shift)
-    } else if name == "cat".as_bytes() {
-        Some(Function::Cat)
-    } else if name == "first".as_bytes() {
-        Some(Function::First)
-    } else {
-        None
+    for function in Function::ALL.as_slice() {
+        if function.name().as_bytes() == name {
+            return Some(*function);
+        }
     }
+    None
 }
 
 // Whether a name is one, as a function where a bracket is behind it and as a handle elsewhere.
@@ -79,7 +64,7 @@ fn is_known_symbol(text: &[u8], names: &[Named], token: Token, rest: &[Token]) -
 }
 
 /// The byte of the first name that isn't known.
-#[tactic(auto, unfolding(hive_model::specs::ExprText::unknown_name))]
+#[tactic(auto, unfolding(text_model::specs::ExprText::unknown_name))]
 pub fn unknown_name(text: &[u8], names: &[Named], tokens: &[Token]) -> Option<u32>
     ensures { result ≡ unknown_name text.now names.now tokens.now }
 {

@@ -1,9 +1,10 @@
 //! Reading an expression.
-ghost use Rattle.std.specs.Prelude.{◌≡◌, ◌≤◌, ◌+◌, ◌∷◌, ◌++◌, [], List, ℕ, length, IfOk, Option, Result, Ok, Err};
-ghost use Rattle.hive_model.specs.ExprText.{expr_of, is_kind, tree_of_kind};
+ghost use Rattle.std.specs.Prelude.{◌≡◌, ◌<◌, ◌≤◌, ◌+◌, ◌∷◌, ◌++◌, [], List, ℕ, length, IfOk, Option, Result, Ok, Err};
+ghost use Rattle.text_model.specs.ExprText.{expr_of, tree_of_kind};
+ghost use Rattle.hive_model.specs.Same.{same_kind};
 ghost use Rattle.hive_model.specs.Tree.{nodes_of};
-ghost use Rattle.hive_model.specs.Valid.{IsExpression};
-ghost use Rattle.hive_model.specs.Written.{Written};
+ghost use Rattle.hive_model.specs.Kinds.{IsExpression};
+ghost use Rattle.text_model.specs.Written.{Written};
 ghost use Rattle.hive_model.specs.declared.product.Kind.{Kind};
 ghost use Rattle.expr_text.specs.Known.{Knows};
 ghost use Rattle.expr_text.specs.Parts.{postfix};
@@ -15,17 +16,9 @@ use crate::assembly::{Slot, assemble};
 use crate::grammar::{Part, parts};
 use crate::names::unknown_name;
 use crate::symbols::tokens;
-use hive_model::{Expr, ExprRefusal, Kind, Many, Named};
+use hive_model::{Expr, Kind, MOST_NODES, Many};
 use std::alloc::Global;
-
-/// The most bytes that an expression's text may have.
-pub const LONGEST: usize = 1024;
-
-/// The most brackets and signs that may stand open at once.
-pub const DEEPEST: u8 = 64;
-
-/// The most nodes that an expression may have.
-pub const MOST_NODES: usize = 256;
+use text_model::{ExprRefusal, MOST_EXPRESSION_BYTES, MOST_NESTING, Named};
 
 /// The expression of `text` over the handles of `names`, whose kind is `wanted`.
 ///
@@ -34,8 +27,10 @@ pub const MOST_NODES: usize = 256;
 pub fn parse(alloc: Global, text: &str, names: &[Named], wanted: Kind) -> Result<Expr, ExprRefusal>
     ensures meaning { GivesNodes result (expr_of text.now names.now wanted) }
     ensures valid { (see : ℕ → Option Kind) → Knows see names.now → IfOk result (IsExpression see wanted) }
+    // Such a text takes no memory.
+    ensures too_long { MOST_EXPRESSION_BYTES < length text.now → result ≡ Err ExprRefusal.TooLong }
 {
-    if text.len() > LONGEST {
+    if text.len() > MOST_EXPRESSION_BYTES {
         return Err(ExprRefusal::TooLong);
     }
     read(alloc, text.as_bytes(), names, wanted)
@@ -43,13 +38,13 @@ pub fn parse(alloc: Global, text: &str, names: &[Named], wanted: Kind) -> Result
 
 // The phases behind the length.
 fn read(alloc: Global, text: &[u8], names: &[Named], wanted: Kind) -> Result<Expr, ExprRefusal>
-    requires { length text.now ≤ 1024 }
+    requires { length text.now ≤ MOST_EXPRESSION_BYTES }
     ensures meaning { GivesNodes result (expr_of text.now names.now wanted) }
     ensures valid { (see : ℕ → Option Kind) → Knows see names.now → IfOk result (IsExpression see wanted) }
 {
     let tokens = tokens(alloc, text)?;
     let tokens = tokens.as_slice();
-    let parts = parts(alloc, text.len() as u32, DEEPEST, tokens)?;
+    let parts = parts(alloc, text.len() as u32, MOST_NESTING, tokens)?;
     if let Some(at) = unknown_name(text, names, tokens) {
         return Err(ExprRefusal::UnknownName { at });
     }
@@ -104,7 +99,7 @@ fn place_of(parts: &[Part]) -> u32
 }
 
 fn is_kind(wanted: Kind, kind: Kind) -> bool
-    ensures { result ≡ is_kind wanted kind }
+    ensures { result ≡ same_kind wanted kind }
 {
     match wanted {
         Kind::Num => match kind {

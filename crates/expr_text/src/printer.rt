@@ -1,13 +1,14 @@
 //! Writing an expression as text.
 ghost use Rattle.std.specs.Prelude.{◌≡◌, ◌++◌, ◌-◌, ◌∷◌, ◌<◌, List, ℕ, [], Some, None, ◌≤◌, Ok, IfOk, OnOk, slice_get, length, string_bytes, MatchOption};
-ghost use Rattle.hive_model.specs.ExprText.{expr_of};
+ghost use Rattle.text_model.specs.ExprText.{expr_of};
 ghost use Rattle.hive_model.specs.declared.product.Kind.{Kind};
 ghost use Rattle.hive_model.specs.Tree.{Tree, node_tree, nodes_of, tree_within};
 ghost use Rattle.expr_text.specs.Printed.{IsPrintable, enclosed, function_text, is_compound_node, nesting, operator_text, printed, word_of};
 
-use hive_model::{Binary, Expr, Function, Named, Node, Text};
+use hive_model::{Binary, Expr, Function, Node, Text};
 use std::alloc::{AllocError, Global};
 use std::fmt::Write;
+use text_model::Named;
 
 /// The text of an expression over the handles of `names` (docs/FORMATS.md, "Expressions"). The only error is
 /// want of memory.

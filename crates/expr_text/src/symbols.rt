@@ -3,11 +3,12 @@ ghost use Rattle.std.specs.Prelude.{◌≡◌, ℕ, List, ◌≤◌, ◌+◌, �
 ghost use Rattle.std.specs.Char.{is_ascii_digit};
 ghost use Rattle.std.specs.List.{prefix_len, AllPass};
 ghost use Rattle.std.specs.Str.Parse.{digits_value};
-ghost use Rattle.hive_model.specs.Tokens.{is_word, double_mark, single_mark, literal, mark, symbol_at, tokens_of};
+ghost use Rattle.text_model.specs.Tokens.{is_word, double_mark, single_mark, literal, mark, symbol_at, tokens_of};
 ghost use Rattle.expr_text.specs.Gives.{Gives, Refused};
 
-use hive_model::{Binary, ExprRefusal, Symbol, Token};
+use hive_model::Binary;
 use std::alloc::Global;
+use text_model::{ExprRefusal, Symbol, Token};
 
 /// The tokens of a text of at most 1,024 bytes, from the left. The only error besides those of the text
 /// is want of memory.
@@ -34,7 +35,7 @@ pub fn tokens(alloc: Global, text: &[u8]) -> Result<Vec<Token>, ExprRefusal>
 }
 
 // The symbol that the bytes begin with, and its length.
-#[tactic(auto, using(crate::proofs::TokenLists::fronts), unfolding(hive_model::specs::Tokens::symbol_at, hive_model::specs::Tokens::literal))]
+#[tactic(auto, using(crate::proofs::TokenLists::fronts), unfolding(text_model::specs::Tokens::symbol_at, text_model::specs::Tokens::literal))]
 fn symbol_at(at: usize, bytes: &[u8]) -> Result<(Symbol, usize), ExprRefusal>
     requires some { 0 < length bytes.now }
     requires few { at + length bytes.now ≤ 1024 }
@@ -105,7 +106,7 @@ fn value(digits: &[u8]) -> Option<i64>
 const MOST: u64 = 9223372036854775807;
 
 // The mark that the bytes begin with, and its length.
-#[tactic(auto, unfolding(hive_model::specs::Tokens::mark))]
+#[tactic(auto, unfolding(text_model::specs::Tokens::mark))]
 fn mark(at: usize, bytes: &[u8]) -> Result<(Symbol, usize), ExprRefusal>
     requires some { 0 < length bytes.now }
     requires few { at ≤ 1024 }

@@ -1,12 +1,12 @@
 //! The real files. What they hold can't be stated, so they tell nothing of it.
-ghost use Rattle.std.specs.Prelude.{◌≡◌, ◌≢◌, ◌≤◌, ◌<◌, [], length, Err, IfOk, OnOk, OnErr};
+ghost use Rattle.std.specs.Prelude.{◌≡◌, ◌≤◌, ◌<◌, [], length, Err, IfErr, OnOk, OnErr};
 ghost use Rattle.std.specs.Io.KnownBytes.{Consumes, IsAtEnd};
-ghost use Rattle.hive_top.specs.Cause.{Adds};
+ghost use Rattle.hive_edge.specs.Shelf.{ShelfCause};
 ghost use Rattle.hive.specs.Reading.{Tells};
 
-use hive_edge::{Shelf, ShelfFault};
+use crate::streams::RealIn;
+use hive_edge::{InputFault, Shelf, ShelfFault, Source, read_all};
 use std::fs;
-use std::io::Read;
 use std::rt::Files;
 
 /// A shelf over the files that a runtime reaches. A name is a path.
@@ -37,7 +37,7 @@ impl<'a, R: Files> Shelf for RealFiles<'a, R> {
     fn fetch(&mut self, name: &str, limit: usize, out: &mut Vec<u8>) -> Result<(), ShelfFault> {
         out.clear();
         let fetched = match fs::open(self.rt, name) {
-            Ok(mut file) => read_up_to(&mut file, limit, out),
+            Ok(file) => read_up_to(&mut RealIn::new(file), limit, out),
             Err(_) => Err(ShelfFault::Failed),
         };
         match fetched {
@@ -55,43 +55,29 @@ impl<'a, R: Files> Shelf for RealFiles<'a, R> {
 
 // Takes what is left of a file, which may be `limit` bytes at most. Where the file is longer, its front is
 // taken.
-fn read_up_to<F: Read>(file: &mut F, limit: usize, out: &mut Vec<u8>) -> Result<(), ShelfFault>
+fn read_up_to<S: Source>(file: &mut S, limit: usize, out: &mut Vec<u8>) -> Result<(), ShelfFault>
     requires { out.old.items ≡ [] }
-    ensures bytes { Tells result (Consumes (F.remaining file.old) (F.remaining file.new) out.new.items) }
-    ensures end { OnOk result (IsAtEnd (F.remaining file.new)) }
+    ensures bytes { Tells result (Consumes (S.rest file.old) (S.rest file.new) out.new.items) }
+    ensures end { OnOk result (IsAtEnd (S.rest file.new)) }
     ensures limit { OnOk result (length out.new.items ≤ limit) }
     ensures over { result ≡ Err ShelfFault.Over → limit < length out.new.items }
+    ensures cause { ShelfCause (S.faults file.old) (S.faults file.new) result }
 {
-    let mut buffer = [0u8; PIECE];
-    'pieces: while out.len() <= limit {
-        match read_piece(file, &mut buffer, out)? {
-            0 => return Ok(()),
-            _ => {}
-        }
-    }
-    Err(ShelfFault::Over)
-}
-
-// Appends what one read gives, and says how many bytes these are.
-fn read_piece<F: Read>(
-    file: &mut F,
-    buffer: &mut [u8],
-    out: &mut Vec<u8>,
-) -> Result<usize, ShelfFault>
-    requires { 0 < length buffer.old }
-    ensures bytes { IfOk result (Adds (F.remaining file.old) (F.remaining file.new) out.old.items out.new.items) }
-    ensures end { IfOk result (λ n. n ≡ 0 → IsAtEnd (F.remaining file.new)) }
-    ensures fault { OnErr result (result ≢ Err ShelfFault.Over) }
-{
-    match file.read(buffer) {
-        Ok(count) => {
-            let (piece, _) = buffer.split_at(count);
-            out.extend_from_slice(piece)?;
-            Ok(count)
-        }
-        Err(_) => Err(ShelfFault::Failed),
+    match read_all(file, limit, out) {
+        Ok(()) => if_short(out.len(), limit),
+        Err(InputFault::Failed) => Err(ShelfFault::Failed),
+        Err(InputFault::NoMemory) => Err(ShelfFault::NoMemory),
     }
 }
 
-// How many bytes one read asks for.
-const PIECE: usize = 4_096;
+fn if_short(count: usize, limit: usize) -> Result<(), ShelfFault>
+    ensures ok { OnOk result (count ≤ limit) }
+    ensures err { OnErr result (limit < count) }
+    ensures over { IfErr result (λ fault. fault ≡ ShelfFault.Over) }
+{
+    if count <= limit {
+        Ok(())
+    } else {
+        Err(ShelfFault::Over)
+    }
+}

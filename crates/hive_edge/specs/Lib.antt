@@ -1,5 +1,6 @@
 pub mod Fault
 pub mod Source
+pub mod Reading
 pub mod Sink
 pub mod Shelf
 pub mod CleanSource

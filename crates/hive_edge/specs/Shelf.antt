@@ -1,9 +1,9 @@
 -- A shelf has files, texts under names, where it tells them. Where a name stands more than once, the first text counts.
-use Rattle.std.specs.Prelude.{◌≡◌, ℕ, ◌<◌, ◌≤◌, List, [], Option, Some, None, Result, Ok, Err, length, nat_eq, find, map, IsSomeAnd}
+use Rattle.std.specs.Prelude.{◌≡◌, ℕ, ◌<◌, ◌≤◌, List, [], Option, Some, None, Result, Ok, Err, length, find, map, IsSomeAnd}
 use Rattle.std.specs.declared.alloc.Global.{Global}
 use Rattle.std.specs.declared.vec.Vec.{Vec}
 use Rattle.std.specs.Option.{option_map}
-use Rattle.std.specs.Cmp.Lexicographic.{pointwise}
+use Rattle.hive_model.specs.Same.{same_text}
 use Rattle.hive_edge.specs.Fault.{Rose}
 use Rattle.hive_edge.specs.declared.shelf.ShelfFault.{ShelfFault}
 use Rattle.hive_edge.specs.declared.shelf.ShelfFault.TheVariants.{Failed, Over, NoMemory}
@@ -14,7 +14,7 @@ Files = List (List ℕ × List ℕ)
 
 -- the text under a name
 abbrev pub text_of : List ℕ → Files → Option (List ℕ)
-text_of name files = option_map (λ (file : List ℕ × List ℕ). file.1) (find (λ (file : List ℕ × List ℕ). pointwise nat_eq file.0 name) files)
+text_of name files = option_map (λ (file : List ℕ × List ℕ). file.1) (find (λ (file : List ℕ × List ℕ). same_text file.0 name) files)
 
 -- `Ok` gave the text under the name; `Over` says that it is longer than the limit. Want of memory comes only for a text
 -- that is within it, so a name that isn't there is `Failed`

@@ -6,7 +6,7 @@
 //!
 //! A [`CleanSource`], [`CleanSink`] and [`CleanShelf`] are the outside in memory, without faults; a
 //! [`MemSource`], [`MemSink`] and [`MemShelf`] fail at the calls that they are told to. [`send`] writes a
-//! whole piece to any sink.
+//! whole piece to any sink, and [`read_all`] reads any source to its end.
 #![tactic(auto)]
 
 mod clean_shelf;
@@ -18,6 +18,7 @@ mod mem_shelf;
 mod mem_sink;
 mod mem_source;
 mod pieces;
+mod reading;
 mod shelf;
 mod sink;
 mod source;
@@ -29,9 +30,7 @@ pub use failed::Failed;
 pub use mem_shelf::MemShelf;
 pub use mem_sink::MemSink;
 pub use mem_source::MemSource;
+pub use reading::{InputFault, read_all};
 pub use shelf::{Shelf, ShelfFault};
 pub use sink::{Sink, send};
 pub use source::Source;
-
-#[cfg(test)]
-mod tests;

@@ -4,15 +4,19 @@ ghost use Rattle.hive_edge.specs.Shelf.{Files, Fetches, ShelfCause};
 ghost use Rattle.hive_edge.specs.declared.shelf.ShelfFault.TheVariants.{NoMemory};
 
 use std::alloc::AllocError;
+use thiserror::Error;
 
 /// Why a text wasn't fetched.
-#[derive(Clone, Copy, Debug, PartialEq, Eq)]
+#[derive(Clone, Copy, Debug, PartialEq, Eq, Error)]
 pub enum ShelfFault {
     /// The outside failed, or no text has the name: the count of faults rose, or stands at its last value.
+    #[error("the outside failed, or no text has the name")]
     Failed,
     /// The text is longer than the limit.
+    #[error("the text is longer than the limit")]
     Over,
     /// Memory ran out.
+    #[error("memory ran out")]
     NoMemory,
 }
 

@@ -1,10 +1,11 @@
--- The ten functions over lists. An index counts from 0, and a list holds at most 1,024 numbers.
+-- The ten functions over lists. An index counts from 0, and a list that would be too long is the fault TooLong.
 use Rattle.std.specs.Prelude.{nat_le, if◌then◌else◌, ℤ, pos, negsuc, ◌+ℤ◌, ◌*ℤ◌, int_lt, List, [], ◌∷◌, ◌++◌, length, map, take, slice_get, Ok, Err}
 use Rattle.std.specs.List.{filter, fold}
 use Rattle.std.specs.Option.{option_map_or}
 use Rattle.hive_model.specs.Number.{Worth, num, list}
 use Rattle.hive_model.specs.declared.expr.Function.{Function}
 use Rattle.hive_model.specs.declared.expr.Function.TheVariants.{Len, Sum, Min, Max, At, Above, Scale, Shift, Cat, First}
+use Rattle.hive_model.specs.declared.limits.TheConstants.{MOST_NUMBERS}
 use Rattle.hive_model.specs.declared.outcome.Fault.TheVariants.{Empty, Index, TooLong}
 use Rattle.hive_model.specs.declared.product.Product.{Product}
 use Rattle.hive_model.specs.declared.product.Product.TheVariants as product
@@ -36,7 +37,7 @@ front xs (pos n) = Ok (product.List (take n xs))
 front xs (negsuc n) = Err Index
 
 unfoldable pub joined : List ℤ → List ℤ → Worth
-joined xs ys = if nat_le (length (xs ++ ys)) 1024 then Ok (product.List (xs ++ ys)) else Err TooLong
+joined xs ys = if nat_le (length (xs ++ ys)) MOST_NUMBERS then Ok (product.List (xs ++ ys)) else Err TooLong
 
 -- a function of one list
 unfoldable pub call_one : Function → Product → Worth

@@ -2,10 +2,12 @@
 -- members and its flags. False fixes an AND and is what an OR starts from; true the other way round.
 use Rattle.std.specs.Prelude.{ℕ, zero, suc, Bool, true, false, not, ◌||◌, if◌then◌else◌, List, map, Option, Some, None, slice_get}
 use Rattle.std.specs.List.{find, list_any}
-use Rattle.std.specs.Option.{option_flatten, option_map_or}
+use Rattle.std.specs.Option.{option_map_or}
 use Rattle.std.specs.Prelude.{unwrap_or}
 use Rattle.hive_model.specs.Job.{Job}
+use Rattle.hive_model.specs.Results.{outcome_at}
 use Rattle.hive_model.specs.Sequence.{Sequence}
+use Rattle.hive_model.specs.declared.limits.TheConstants.{MOST_DEPTH}
 use Rattle.hive_model.specs.declared.decision.Decision.{Decision}
 use Rattle.hive_model.specs.declared.decision.Decision.TheVariants.{True, False, Undecided}
 use Rattle.hive_model.specs.declared.outcome.Outcome.{Outcome}
@@ -78,11 +80,12 @@ node_decision q members = ignored q.ignore_filter (inverted q.invert (before_fla
 
 -- the decision of a member at most `depth` sequences deep
 unfoldable pub decision_within : ℕ → List Sequence → List (Option Outcome) → Member → Decision
-decision_within depth sequences ran (Alg a) = leaf_decision (option_flatten (slice_get ran a))
+decision_within depth sequences ran (Alg a) = leaf_decision (outcome_at ran a)
 decision_within zero sequences ran (Seq s) = Undecided
 decision_within (suc depth) sequences ran (Seq s) =
     option_map_or (λ q. node_decision q (map (decision_within depth sequences ran) q.members)) (slice_get sequences s) Undecided
 
--- Sequences are at most 64 deep, so the depth never shows: see the law `decision-sequence`.
+-- The sequences of a valid job are not deeper, so the depth never shows: the decision of a sequence is its node's over the
+-- decisions of its members, which is a law.
 unfoldable pub decision : Job → List (Option Outcome) → Member → Decision
-decision job ran member = decision_within 64 job.sequences ran member
+decision job ran member = decision_within MOST_DEPTH job.sequences ran member

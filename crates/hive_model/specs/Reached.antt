@@ -6,12 +6,13 @@ use Rattle.std.specs.Option.{option_map_or}
 use Rattle.hive_model.specs.Decision.{decision, is_undecided, is_fixing}
 use Rattle.hive_model.specs.Job.{Job}
 use Rattle.hive_model.specs.Sequence.{Sequence}
+use Rattle.hive_model.specs.declared.limits.TheConstants.{MOST_DEPTH}
 use Rattle.hive_model.specs.declared.decision.Decision.{Decision}
 use Rattle.hive_model.specs.declared.outcome.Outcome.{Outcome}
 use Rattle.hive_model.specs.declared.sequence.Member.{Member}
 use Rattle.hive_model.specs.declared.sequence.Member.TheVariants.{Alg, Seq}
 
--- whether a sequential node goes on behind a member with this decision
+-- whether a sequential node goes on after a member with this decision
 abbrev pub passes : Sequence → Decision → Bool
 passes q d = not (is_undecided d) && not (q.short_circuit && is_fixing q.mode_or d)
 
@@ -27,7 +28,7 @@ reached_within (suc depth) sequences decide (Seq s) =
     Seq s ∷ option_map_or (λ q. flat_map (reached_within depth sequences decide) (entered q (map decide q.members))) (slice_get sequences s) []
 
 unfoldable pub reached : Job → List (Option Outcome) → List Member
-reached job ran = reached_within 64 job.sequences (decision job ran) (Seq job.top)
+reached job ran = reached_within MOST_DEPTH job.sequences (decision job ran) (Seq job.top)
 
 abbrev pub is_leaf_of : ℕ → Member → Bool
 is_leaf_of number (Alg a) = nat_eq a number

@@ -8,12 +8,13 @@ use Rattle.hive_model.specs.Job.{Job}
 use Rattle.hive_model.specs.Tree.{Tree, nodes_of, tree_of}
 use Rattle.hive_model.specs.declared.algorithm.Output.{Output}
 use Rattle.hive_model.specs.declared.expr.Node.{Node}
+use Rattle.hive_model.specs.declared.limits.TheConstants.{MOST_HANDLES}
 
 abbrev pub HasTree : List Node → Type 0
 HasTree nodes = IsSome (tree_of nodes)
 
 pub record CanExecute (a : Algorithm) : Type 0 where
-  pub few : length a.outputs ≤ 1024
+  pub few : length a.outputs ≤ MOST_HANDLES
   pub outputs : AllByRecursion (λ (o : Output). HasTree o.value) a.outputs
   pub filter : MatchOption a.filter (Unit {0}) HasTree
 
@@ -25,6 +26,6 @@ abbrev pub AreInOrder : List Node → Type 0
 AreInOrder nodes = (t : Tree) × (nodes ≡ nodes_of t)
 
 pub record CanPerform (a : Algorithm) : Type 0 where
-  pub few : length a.outputs ≤ 1024
+  pub few : length a.outputs ≤ MOST_HANDLES
   pub outputs : AllByRecursion (λ (o : Output). AreInOrder o.value) a.outputs
   pub filter : MatchOption a.filter (Unit {0}) AreInOrder

@@ -1,5 +1,6 @@
 //! Algorithms, and what they declare: raw handles, resources and outputs.
 ghost use Rattle.std.specs.Prelude.{◌≡◌};
+ghost use Rattle.hive_model.specs.Algorithm.{plain_algorithm};
 
 use crate::{Duplicate, Expr, Kind, Many, Text};
 use std::alloc::{AllocError, Global};
@@ -16,8 +17,26 @@ pub struct Raw {
 #[derive(Debug, PartialEq, Eq, Drop)]
 pub struct Resource {
     pub name: Text,
-    /// 1 to 64.
+    /// 1 to [`MOST_UNITS`](crate::MOST_UNITS).
     pub units: u8,
+}
+
+impl Duplicate for Raw {
+    fn copy(&self, alloc: Global) -> Result<Raw, AllocError> {
+        Ok(Raw {
+            name: self.name.copy(alloc)?,
+            kind: self.kind,
+        })
+    }
+}
+
+impl Duplicate for Resource {
+    fn copy(&self, alloc: Global) -> Result<Resource, AllocError> {
+        Ok(Resource {
+            name: self.name.copy(alloc)?,
+            units: self.units,
+        })
+    }
 }
 
 /// A data handle that an algorithm produces, and how its value is computed.
@@ -43,14 +62,17 @@ impl Duplicate for Output {
 #[derive(Debug, Drop)]
 pub struct Algorithm {
     pub name: Text,
-    /// The number of instances: 1 to 64, or 0 for a re-entrant algorithm.
+    /// The number of instances: 1 to [`MOST_INSTANCES`](crate::MOST_INSTANCES), or 0 for a re-entrant
+    /// algorithm.
     pub cardinality: u8,
+    /// The numbers, from 0, of the resources of which an execution takes one unit each.
     pub resources: Many<u16>,
+    /// The numbers, from 0, of the handles that it takes.
     pub inputs: Many<u16>,
     /// The handle of the first output; the others follow.
     pub first_output: u16,
     pub outputs: Many<Output>,
-    /// The event passes where this is absent or isn't 0.
+    /// An execution is accepted where this is absent or isn't 0, and rejected where it is 0.
     pub filter: Option<Expr>,
 }
 
@@ -63,6 +85,22 @@ impl Model for Algorithm {
 }
 
 impl Algorithm {
+    /// An algorithm of one instance without inputs, outputs, resources and filter. The first output that
+    /// it may get has that handle.
+    pub fn new(alloc: Global, name: Text, first_output: u16) -> Algorithm
+        ensures { result ≡ plain_algorithm name first_output }
+    {
+        Algorithm {
+            name,
+            cardinality: 1,
+            resources: Many::new(alloc),
+            inputs: Many::new(alloc),
+            first_output,
+            outputs: Many::new(alloc),
+            filter: None,
+        }
+    }
+
     /// The handles that it takes, in written order.
     pub fn inputs(&self) -> &[u16]
         ensures { result.now ≡ self.now.inputs }

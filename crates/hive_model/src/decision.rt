@@ -10,13 +10,15 @@ pub enum Decision {
     Undecided,
 }
 
-/// The state in which an event leaves an algorithm.
+/// The state in which an event leaves an algorithm (docs/PROCESSING.md, "Statuses").
 #[derive(Clone, Copy, Debug, PartialEq, Eq)]
 pub enum End {
     /// Control flow never reached it.
     Initial,
     /// Reached, but an input wasn't there.
     ControlReady,
+    /// Reached and not run, and a cut node above it is decided.
+    Withdrawn,
     Accepted,
     Rejected,
     Failed(Place, Fault),
@@ -28,6 +30,6 @@ pub enum EventStatus {
     Ok,
     /// An algorithm faulted.
     Failed,
-    /// None faulted, and a reached algorithm has not run.
+    /// None faulted, and a reached algorithm has not run, though no decided cut node cut it off.
     Stalled,
 }

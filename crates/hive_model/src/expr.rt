@@ -1,5 +1,8 @@
 //! Expressions, as lists of nodes.
-use crate::{Duplicate, Many};
+ghost use Rattle.std.specs.Prelude.{◌≡◌};
+ghost use Rattle.hive_model.specs.Function.{function_name, signature};
+
+use crate::{Duplicate, Kind, Many};
 use std::alloc::{AllocError, Global};
 use std::marker::Model;
 
@@ -32,6 +35,67 @@ pub enum Function {
     Shift,
     Cat,
     First,
+}
+
+/// The kinds of a function's operands and of its value. The first operand is a list.
+#[derive(Clone, Copy, Debug, PartialEq, Eq)]
+pub struct Signature {
+    /// The kind of the second operand, where there is one.
+    pub second: Option<Kind>,
+    pub result: Kind,
+}
+
+impl Function {
+    /// All functions.
+    pub const ALL: [Function; 10] = [
+        Function::Len,
+        Function::Sum,
+        Function::Min,
+        Function::Max,
+        Function::At,
+        Function::Above,
+        Function::Scale,
+        Function::Shift,
+        Function::Cat,
+        Function::First,
+    ];
+
+    /// The word by which an expression's text names it.
+    pub fn name(self) -> &'static str
+        ensures { result.now ≡ function_name self }
+    {
+        match self {
+            Function::Len => "len",
+            Function::Sum => "sum",
+            Function::Min => "min",
+            Function::Max => "max",
+            Function::At => "at",
+            Function::Above => "above",
+            Function::Scale => "scale",
+            Function::Shift => "shift",
+            Function::Cat => "cat",
+            Function::First => "first",
+        }
+    }
+
+    /// What it takes and gives.
+    pub fn signature(self) -> Signature
+        ensures { result ≡ signature self }
+    {
+        let (second, result) = match self {
+            Function::Len => (None, Kind::Num),
+            Function::Sum => (None, Kind::Num),
+            Function::Min => (None, Kind::Num),
+            Function::Max => (None, Kind::Num),
+            Function::At => (Some(Kind::Num), Kind::Num),
+            Function::Above => (Some(Kind::Num), Kind::List),
+            Function::Scale => (Some(Kind::Num), Kind::List),
+            Function::Shift => (Some(Kind::Num), Kind::List),
+            Function::Cat => (Some(Kind::List), Kind::List),
+            Function::First => (Some(Kind::Num), Kind::List),
+        };
+        Signature { second, result }
+    }
 }
 
 /// One node of an expression. A node names its operands by their places in the node list, from 0.

@@ -4,13 +4,13 @@ ghost use Rattle.std.specs.List.{filter, fold};
 ghost use Rattle.hive_model.specs.Number.{num, list};
 ghost use Rattle.hive_model.specs.Call.{total, best, lesser, greater, element, front, joined, call_one, call_two};
 
-use crate::{Fault, Function, Ints, Product};
+use crate::{Fault, Function, Ints, MOST_NUMBERS, Product};
 use std::alloc::{AllocError, Global};
 
-/// The total of at most 1,024 numbers, which 128 bits always hold.
+// The total of the numbers of a list product, which 128 bits always hold.
 #[tactic(auto, unfolding(crate::specs::Number::num))]
 fn total_of(numbers: &[i64]) -> Result<Product, Fault>
-    requires { length numbers.now ≤ 1024 }
+    requires { length numbers.now ≤ MOST_NUMBERS }
     ensures { result ≡ num (total numbers.now) }
 {
     let mut sum: i128 = 0;
@@ -80,7 +80,7 @@ fn front_of(
     numbers: &[i64],
     count: i64,
 ) -> Result<Result<Product, Fault>, AllocError>
-    requires { length numbers.now ≤ 1024 }
+    requires { length numbers.now ≤ MOST_NUMBERS }
     ensures { IfOk result (λ it. it ≡ front numbers.now count) }
 {
     let Ok(count) = usize::try_from(count) else {
@@ -96,7 +96,7 @@ fn front_of(
 
 #[tactic(auto, unfolding(crate::specs::Call::call_two))]
 fn above(alloc: Global, numbers: &[i64], bound: &i64) -> Result<Result<Product, Fault>, AllocError>
-    requires { length numbers.now ≤ 1024 }
+    requires { length numbers.now ≤ MOST_NUMBERS }
     ensures { IfOk result (λ it. it ≡ call_two Function.Above (Product.List numbers.now) (Product.Num bound.now)) }
 {
     let mut kept = Vec::with_capacity(alloc, numbers.len())?;
@@ -114,7 +114,7 @@ fn scaled(
     numbers: &[i64],
     factor: &i64,
 ) -> Result<Result<Product, Fault>, AllocError>
-    requires { length numbers.now ≤ 1024 }
+    requires { length numbers.now ≤ MOST_NUMBERS }
     ensures { IfOk result (λ it. it ≡ list (map (λ x. x *ℤ factor.now) numbers.now)) }
 {
     let mut products = Vec::with_capacity(alloc, numbers.len())?;
@@ -133,7 +133,7 @@ fn shifted(
     numbers: &[i64],
     offset: &i64,
 ) -> Result<Result<Product, Fault>, AllocError>
-    requires { length numbers.now ≤ 1024 }
+    requires { length numbers.now ≤ MOST_NUMBERS }
     ensures { IfOk result (λ it. it ≡ list (map (λ x. x +ℤ offset.now) numbers.now)) }
 {
     let mut sums = Vec::with_capacity(alloc, numbers.len())?;
@@ -152,11 +152,11 @@ fn joined_of(
     front: &[i64],
     back: &[i64],
 ) -> Result<Result<Product, Fault>, AllocError>
-    requires front { length front.now ≤ 1024 }
-    requires back { length back.now ≤ 1024 }
+    requires front { length front.now ≤ MOST_NUMBERS }
+    requires back { length back.now ≤ MOST_NUMBERS }
     ensures { IfOk result (λ it. it ≡ joined front.now back.now) }
 {
-    if front.len() + back.len() > Ints::LIMIT {
+    if front.len() + back.len() > MOST_NUMBERS {
         return Ok(Err(Fault::TooLong));
     }
     let mut numbers = Vec::with_capacity(alloc, front.len() + back.len())?;
@@ -167,7 +167,7 @@ fn joined_of(
 
 #[tactic(auto, unfolding(crate::specs::Call::call_one, crate::specs::Call::unfit))]
 fn call_list(function: Function, numbers: &[i64]) -> Result<Product, Fault>
-    requires { length numbers.now ≤ 1024 }
+    requires { length numbers.now ≤ MOST_NUMBERS }
     ensures { result ≡ call_one function (Product.List numbers.now) }
 {
     match function {
@@ -191,7 +191,7 @@ fn call_number(
     numbers: &[i64],
     number: &i64,
 ) -> Result<Result<Product, Fault>, AllocError>
-    requires { length numbers.now ≤ 1024 }
+    requires { length numbers.now ≤ MOST_NUMBERS }
     ensures { IfOk result (λ it. it ≡ call_two function (Product.List numbers.now) (Product.Num number.now)) }
 {
     match function {
@@ -215,8 +215,8 @@ fn call_lists(
     left: &[i64],
     right: &[i64],
 ) -> Result<Result<Product, Fault>, AllocError>
-    requires left { length left.now ≤ 1024 }
-    requires right { length right.now ≤ 1024 }
+    requires left { length left.now ≤ MOST_NUMBERS }
+    requires right { length right.now ≤ MOST_NUMBERS }
     ensures { IfOk result (λ it. it ≡ call_two function (Product.List left.now) (Product.List right.now)) }
 {
     match function {

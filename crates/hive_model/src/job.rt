@@ -16,7 +16,7 @@ pub struct Job {
     pub resources: Many<Resource>,
     pub algorithms: Many<Algorithm>,
     pub sequences: Many<Sequence>,
-    /// The number of the sequence at the top.
+    /// The number, from 0, of the sequence at the top.
     pub top: u16,
 }
 

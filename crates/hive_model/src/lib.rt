@@ -14,13 +14,13 @@ mod decision;
 mod duplicate;
 mod entry;
 mod expr;
-mod expr_refusal;
 mod function;
 mod ints;
+mod item;
 mod job;
 mod lent;
+mod limits;
 mod many;
-mod named;
 mod operator;
 mod outcome;
 mod product;
@@ -29,22 +29,22 @@ mod result;
 mod scratch;
 mod sequence;
 mod store;
-#[cfg(test)]
-mod tests;
 mod text;
-mod token;
 
 pub use algorithm::{Algorithm, Output, Raw, Resource};
 pub use decision::{Decision, End, EventStatus};
 pub use duplicate::Duplicate;
 pub use entry::Entry;
-pub use expr::{Binary, Expr, Function, Node};
-pub use expr_refusal::ExprRefusal;
+pub use expr::{Binary, Expr, Function, Node, Signature};
 pub use ints::Ints;
+pub use item::Item;
 pub use job::Job;
 pub use lent::Lent;
+pub use limits::{
+    MOST_ALGORITHMS, MOST_DEPTH, MOST_HANDLES, MOST_INSTANCES, MOST_LEAVES, MOST_NODES,
+    MOST_NUMBERS, MOST_RESOURCES, MOST_SEQUENCES, MOST_SLOTS, MOST_UNITS,
+};
 pub use many::Many;
-pub use named::Named;
 pub use outcome::{Fault, Outcome, Place};
 pub use product::{Kind, Product};
 pub use record::EventRecord;
@@ -53,4 +53,3 @@ pub use scratch::{Operand, Scratch};
 pub use sequence::{Member, Sequence};
 pub use store::Store;
 pub use text::Text;
-pub use token::{Form, Level, Symbol, Token};

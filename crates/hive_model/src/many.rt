@@ -1,7 +1,7 @@
 //! A list that owns its elements and can promise room.
-ghost use Rattle.std.specs.Prelude.{◌≡◌, ℕ, ◌+◌, ◌-◌, ◌<◌, ◌≤◌, [], ◌∷◌, ◌++◌, length, map, take, drop, IsOk, IfOk, OnOk, IfErr, OnErr, IsSome, IfSome, IfNone, OnSome, ◌↔◌};
-ghost use Rattle.std.specs.Cmp.{on_per};
-ghost use Rattle.std.specs.Cmp.Lexicographic.{lists_per, pointwise};
+ghost use Rattle.std.specs.Prelude.{◌≡◌, ℕ, ◌+◌, ◌-◌, ◌<◌, ◌≤◌, [], ◌∷◌, ◌++◌, length, map, take, drop, vec_len, vec_capacity, IsOk, IfOk, OnOk, IfErr, OnErr, IsSome, IfSome, IfNone, OnSome, ◌↔◌};
+ghost use Rattle.std.specs.Cmp.{on_equiv, on_per};
+ghost use Rattle.std.specs.Cmp.Lexicographic.{lists_equiv, lists_per, pointwise};
 
 use crate::Duplicate;
 use std::alloc::{AllocError, Global};
@@ -26,6 +26,9 @@ impl<T> Model for Many<T> {
 }
 
 impl<T> Many<T> {
+    ghost use Rattle.std.specs.Borrow.{sem};
+    ghost use Rattle.hive_model.specs.ManyLent.{LendsItems};
+
     /// The empty list. It takes no memory.
     pub fn new(alloc: Global) -> Many<T>
         ensures { result.items ≡ [] }
@@ -89,16 +92,26 @@ impl<T> Many<T> {
         self.0.as_slice()
     }
 
+    /// The list, to change its elements. It takes no memory.
+    pub fn as_mut_slice(&mut self) -> &mut [T]
+        ensures* writes_back { sem 𝓛 (LendsItems T.row self.entry result) }
+        ensures value { result.now ≡ self.old.items }
+    {
+        self.0.as_mut_slice()
+    }
+
     /// The vector inside, with the same elements. It takes no memory.
     pub fn into_vec(self) -> Vec<T>
-        ensures { result.items ≡ self.items }
+        ensures items { result.items ≡ self.items }
+        ensures spare { vec_capacity result - vec_len result ≡ self.spare }
     {
         self.0
     }
 
     /// The same elements as a list. It takes no memory.
     pub fn from_vec(items: Vec<T>) -> Many<T>
-        ensures { result.items ≡ items.items }
+        ensures items { result.items ≡ items.items }
+        ensures spare { result.spare ≡ vec_capacity items - vec_len items }
     {
         Many(items)
     }
@@ -136,4 +149,8 @@ impl<T: PartialEq> PartialEq for Many<T> {
     fn eq(&self, other: &Self) -> bool {
         self.0.as_slice() == other.0.as_slice()
     }
+}
+
+impl<T: Eq> Eq for Many<T> {
+    ghost laws = { on_equiv (λ x. x.items) (lists_equiv T.Eq.laws) };
 }

@@ -18,7 +18,7 @@ pub enum Kind {
 pub enum Product {
     /// One whole number of 64 bits with sign.
     Num(i64),
-    /// At most 1,024 of them.
+    /// At most [`MOST_NUMBERS`](crate::MOST_NUMBERS) of them.
     List(Ints),
 }
 

@@ -63,3 +63,14 @@ impl PartialEq for EventResult {
             && self.store == other.store
     }
 }
+
+impl Eq for EventResult {
+    ghost use Rattle.std.specs.Cmp.{and_equiv, nat_eq_equiv, on_equiv};
+    ghost use Rattle.std.specs.Cmp.Lexicographic.{lists_equiv};
+    ghost use Rattle.hive_model.specs.contracts.decision.DecisionEq.TheImpl.Laws.{laws-law as decision_law};
+    ghost use Rattle.hive_model.specs.contracts.decision.EndEq.TheImpl.Laws.{laws-law as end_law};
+    ghost use Rattle.hive_model.specs.contracts.decision.EventStatusEq.TheImpl.Laws.{laws-law as status_law};
+    ghost use Rattle.hive_model.specs.contracts.store.StoreEq.TheImpl.Laws.{laws-law as store_law};
+
+    ghost laws = { (and_equiv (on_equiv (λ it. it.event) nat_eq_equiv) (and_equiv (on_equiv (λ it. it.status) status_law) (and_equiv (on_equiv (λ it. it.decisions) (lists_equiv decision_law)) (and_equiv (on_equiv (λ it. it.ends) (lists_equiv end_law)) (on_equiv (λ it. it.store) store_law))))) };
+}

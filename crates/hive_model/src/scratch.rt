@@ -26,8 +26,8 @@ pub enum Operand {
 /// executions the stack is empty.
 #[derive(Debug, Drop)]
 pub struct Scratch {
-    pub stack: Many<Operand>,
-    pub inputs: Many<Arc<Product>>,
+    stack: Many<Operand>,
+    inputs: Many<Arc<Product>>,
 }
 
 impl Model for Scratch {
@@ -43,8 +43,8 @@ impl Model for Scratch {
 }
 
 impl Scratch {
-    /// Room for the inputs and the expressions of an algorithm, with no inputs yet. The only error is want
-    /// of memory.
+    /// Room for the inputs and the expressions of an algorithm, with no inputs yet. The only error is
+    /// that memory ran out.
     pub fn new(alloc: Global, algorithm: &Algorithm) -> Result<Scratch, AllocError>
         ensures made_for { IfOk result (IsMadeFor algorithm.now) }
         ensures inputs { IfOk result (λ it. it.inputs ≡ []) }
@@ -55,8 +55,8 @@ impl Scratch {
         Ok(Scratch { stack, inputs })
     }
 
-    /// Shares what a store holds for these handles, in their order, and gives up the inputs before. The
-    /// only error is want of memory: there are then no inputs.
+    /// Shares what a store holds for these handles, in their order, and lets the inputs before go. The
+    /// only error is that memory ran out: there are then no inputs.
     pub fn load(&mut self, handles: &[u16], store: &Store) -> Result<(), AllocError>
         ensures ok { OnOk result (self.new.inputs ≡ inputs_in store.now handles.now) }
         ensures err { OnErr result (self.new.inputs ≡ []) }
@@ -69,9 +69,44 @@ impl Scratch {
         }
         loaded
     }
+
+    /// Lets the inputs go, and keeps the room. It takes no memory.
+    pub fn unload(&mut self)
+        ensures { self.new ≡ record self.old { inputs = [] } }
+    {
+        self.inputs.clear();
+    }
+
+    /// The inputs.
+    pub fn inputs(&self) -> &[Arc<Product>]
+        ensures { map arc_value result.now ≡ self.now.inputs }
+    {
+        self.inputs.as_slice()
+    }
+
+    /// The stack, which is empty, and the inputs. It takes no memory.
+    pub fn into_parts(self) -> (Many<Operand>, Many<Arc<Product>>)
+        ensures empty { result.0.items ≡ [] }
+        ensures stack_room { result.0.spare ≡ self.stack_room }
+        ensures inputs { map arc_value result.1.items ≡ self.inputs }
+        ensures input_room { length result.1.items + result.1.spare ≡ self.input_room }
+    {
+        let Scratch { stack, inputs } = self;
+        (stack, inputs)
+    }
+
+    /// A scratch of an empty stack and these inputs. It takes no memory.
+    pub fn from_parts(stack: Many<Operand>, inputs: Many<Arc<Product>>) -> Scratch
+        requires { stack.items ≡ [] }
+        ensures inputs { result.inputs ≡ map arc_value inputs.items }
+        ensures input_room { result.input_room ≡ length inputs.items + inputs.spare }
+        ensures stack_room { result.stack_room ≡ stack.spare }
+    {
+        Scratch { stack, inputs }
+    }
 }
 
-/// Appends what a store holds for these handles.
+// Appends what a store holds for these handles.
 fn share_into(
     inputs: &mut Many<Arc<Product>>,
     handles: &[u16],
@@ -89,7 +124,7 @@ fn share_into(
     Ok(())
 }
 
-/// The most nodes that an output's expression has.
+// The most nodes that an output's expression has.
 fn most_nodes(outputs: &[Output]) -> usize
     ensures { AllByRecursion (λ o. length o.value ≤ result) outputs.now }
 {

@@ -45,6 +45,13 @@ impl Store {
         Store(places)
     }
 
+    /// The places inside. It takes no memory.
+    pub fn into_places(self) -> Vec<Option<Arc<Product>>>
+        ensures { map shown result.items ≡ self }
+    {
+        self.0
+    }
+
     /// Puts a product into an empty place. It takes no memory.
     pub fn put(&mut self, handle: u16, product: Arc<Product>)
         requires { slice_get self.old handle ≡ Some None }

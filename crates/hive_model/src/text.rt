@@ -32,6 +32,13 @@ impl Text {
         Text(text)
     }
 
+    /// The string inside, with the same bytes. It takes no memory.
+    pub fn into_string(self) -> String
+        ensures { string_bytes result ≡ self }
+    {
+        self.0
+    }
+
     /// The text.
     pub fn as_str(&self) -> &str
         ensures { result.now ≡ self.now }

@@ -1,5 +1,9 @@
-//! Worked rows that cross crates, as tests. No other crate stands on this one.
+//! Tests that start threads, and so can't be rows of a program. No other crate stands on this one.
 #![tactic(auto)]
 
 #[cfg(test)]
-mod expressions;
+mod claims;
+#[cfg(test)]
+mod sharing;
+#[cfg(test)]
+mod turns;

@@ -1,10 +1,3 @@
-pub mod Cutting
-pub mod Digits
-pub mod Pieces
-pub mod ThinExample
-pub mod ThinNames
-pub mod ThinTrees
-pub mod ThinViews
 pub mod DueLaws
 pub mod WholeTexts
 pub mod FileAnswers

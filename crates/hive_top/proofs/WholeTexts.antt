@@ -8,7 +8,7 @@ use Rattle.hive_model.specs.Job.{Job}
 use Rattle.hive_model.specs.declared.algorithm.Raw.{Raw}
 use Rattle.hive_top.specs.Due.{IsDueOfSource, Tells}
 use Rattle.hive_top.specs.ThinAnswer.{found_answer, records_answer}
-use Rattle.hive_top.specs.ThinRecords.{thin_records}
+use Rattle.thin_texts.specs.ThinRecords.{thin_records}
 use Rattle.hive_top.specs.declared.status.Status.{Status}
 use Rattle.hive_top.specs.declared.status.Status.TheVariants.{Input}
 

@@ -1,13 +1,5 @@
 pub mod Status
 pub mod Words
-pub mod Numeral
-pub mod ThinRecords
-pub mod ThinTables
-pub mod ThinJob
-pub mod ThinTree
-pub mod Counted
-pub mod Tallied
-pub mod Cause
 pub mod ThinAnswer
 pub mod Due
 pub mod Reply

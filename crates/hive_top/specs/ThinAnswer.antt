@@ -8,9 +8,9 @@ use Rattle.hive_model.specs.Event.{event_result}
 use Rattle.hive_model.specs.EventRecord.{EventRecord}
 use Rattle.hive_model.specs.EventResult.{EventResult}
 use Rattle.hive_model.specs.Job.{Job}
-use Rattle.hive_model.specs.Whole.{whole, tally, is_ok}
-use Rattle.hive_top.specs.ThinTree.{thin_job}
-use Rattle.hive_top.specs.ThinRecords.{thin_records}
+use Rattle.text_model.specs.Whole.{ReadToEnd, whole, tally, is_ok}
+use Rattle.thin_texts.specs.ThinTree.{thin_job}
+use Rattle.thin_texts.specs.ThinRecords.{thin_records}
 use Rattle.hive_top.specs.Words.{file_of}
 use Rattle.hive_top.specs.declared.status.Status.{Status}
 use Rattle.hive_top.specs.declared.status.Status.TheVariants.{AllOk, SomeNot, Words, Options, Record, Input}
@@ -37,7 +37,7 @@ stop_record = record { text = codes "stop record NotBuilt" ++ 10 ∷ []; status 
 -- the whole text, and whether as many results are ok as there are
 abbrev pub run_answer : Job → List EventResult → Answer
 run_answer job results =
-    record { text = whole job results; status = if nat_eq (tally is_ok results) (length results) then AllOk else SomeNot }
+    record { text = whole job results ReadToEnd false; status = if nat_eq (tally is_ok results) (length results) then AllOk else SomeNot }
 
 -- the results are those of each event by itself
 unfoldable pub events_answer : Job → List EventRecord → Answer

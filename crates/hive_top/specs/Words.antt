@@ -1,12 +1,12 @@
 -- The written form of the words: `run FILE`, where FILE isn't empty and doesn't begin with `--`.
-use Rattle.std.specs.Prelude.{codes, ℕ, nat_eq, Bool, not, ◌&&◌, if◌then◌else◌, List, [], ◌∷◌, take, Option, Some, None}
-use Rattle.std.specs.Cmp.Lexicographic.{pointwise}
+use Rattle.std.specs.Prelude.{codes, ℕ, Bool, not, ◌&&◌, if◌then◌else◌, List, [], ◌∷◌, take, Option, Some, None}
+use Rattle.hive_model.specs.Same.{same_text}
 
 abbrev pub is_empty : List ℕ → Bool
-is_empty name = pointwise nat_eq name []
+is_empty name = same_text name []
 
 abbrev pub is_option : List ℕ → Bool
-is_option name = pointwise nat_eq (take 2 name) (codes "--")
+is_option name = same_text (take 2 name) (codes "--")
 
 -- a word that can name a file
 abbrev pub is_file : List ℕ → Bool
@@ -16,5 +16,5 @@ is_file name = not (is_empty name) && not (is_option name)
 unfoldable pub file_of : List (List ℕ) → Option (List ℕ)
 file_of [] = None
 file_of (command ∷ []) = None
-file_of (command ∷ name ∷ []) = if pointwise nat_eq command (codes "run") && is_file name then Some name else None
+file_of (command ∷ name ∷ []) = if same_text command (codes "run") && is_file name then Some name else None
 file_of (command ∷ name ∷ more ∷ words) = None

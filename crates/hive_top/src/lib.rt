@@ -5,19 +5,9 @@
 //! traits of `hive_edge`, so a test hands it files and streams in memory.
 #![tactic(auto)]
 
-mod counts;
-mod input;
-mod job;
-mod names;
-mod numeral;
-mod records;
 mod reply;
-mod report;
 mod run;
 mod status;
-#[cfg(test)]
-mod tests;
-mod thin;
 mod top;
 mod words;
 

@@ -2,21 +2,20 @@
 ghost use Rattle.std.specs.Prelude.{◌≡◌, ◌≢◌, ◌≤◌, IfOk, IfSome, length};
 ghost use Rattle.std.specs.Option.{ForSome, option_map};
 ghost use Rattle.hive_model.specs.Runnable.{IsRunnable};
-ghost use Rattle.hive_top.specs.Cause.{InputCause};
+ghost use Rattle.hive_edge.specs.Reading.{InputCause};
 ghost use Rattle.hive_top.specs.Due.{IsDueOfName, IsDueOfSource};
 ghost use Rattle.hive_top.specs.Reply.{bytes_of};
 ghost use Rattle.hive_top.specs.Status.{IsFound};
 ghost use Rattle.hive_top.specs.ThinAnswer.{events_answer, found_answer, name_answer, options_answer, records_answer};
-ghost use Rattle.hive_top.specs.ThinRecords.{thin_records};
+ghost use Rattle.thin_texts.specs.ThinRecords.{thin_records};
 
-use crate::input::{InputFault, read_all};
-use crate::job::read_job;
-use crate::records::{RECORDS_LIMIT, read_records};
 use crate::run::run;
 use crate::status::Status;
-use hive_edge::{Shelf, ShelfFault, Source};
+use hive_edge::{InputFault, Shelf, ShelfFault, Source, read_all};
 use hive_model::{EventRecord, Job};
 use std::alloc::{AllocError, Global};
+use text_model::MOST_OPTIONS_BYTES;
+use thin_texts::{RECORDS_LIMIT, read_job, read_records};
 
 /// A text to write: a stop line, or the reports of a run with their last line.
 #[derive(Drop)]
@@ -44,10 +43,7 @@ impl Reply {
     }
 }
 
-// The most bytes of an options text.
-const OPTIONS_LIMIT: usize = 1_048_576;
-
-/// What `run` of a file comes to. The only error is want of memory.
+/// What `run` of a file comes to. The only error is that memory ran out.
 pub fn reply_to_name<F: Shelf, S: Source>(
     alloc: Global,
     name: &str,
@@ -59,7 +55,7 @@ pub fn reply_to_name<F: Shelf, S: Source>(
     ensures found { IfOk result (λ it. IsFound it.status) }
 {
     let mut options = Vec::new(alloc);
-    match shelf.fetch(name, OPTIONS_LIMIT, &mut options) {
+    match shelf.fetch(name, MOST_OPTIONS_BYTES, &mut options) {
         Ok(()) => Ok(reply_to_options(alloc, options.as_slice(), source)?),
         Err(ShelfFault::Failed) => Ok(stop(b"stop shelf\n", Status::Input)),
         Err(ShelfFault::Over) => Ok(stop(b"stop options NotBuilt\n", Status::Options)),
@@ -108,7 +104,8 @@ fn read_source<S: Source>(
     ensures few { IfOk result (λ o. ForSome o (λ records. length records.items ≤ 9999)) }
     ensures cause { InputCause (S.faults source.old) (S.faults source.new) result }
 {
-    let text = read_all(alloc, source, RECORDS_LIMIT)?;
+    let mut text = Vec::new(alloc);
+    read_all(source, RECORDS_LIMIT, &mut text)?;
     Ok(read_records(alloc, job.raws(), text.as_slice())?)
 }
 

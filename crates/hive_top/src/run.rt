@@ -1,21 +1,21 @@
 //! Evaluating the events of a run and printing their reports.
-ghost use Rattle.std.specs.Prelude.{◌≡◌, ◌<◌, map, length, IfOk, OnOk, ◌++◌};
+ghost use Rattle.std.specs.Prelude.{◌≡◌, ◌<◌, false, map, length, IfOk, OnOk, ◌++◌};
 ghost use Rattle.hive_model.specs.Runnable.{IsRunnable};
 ghost use Rattle.hive_model.specs.Event.{event_result};
-ghost use Rattle.hive_model.specs.Report.{report};
-ghost use Rattle.hive_model.specs.Whole.{whole};
+ghost use Rattle.text_model.specs.Report.{report};
+ghost use Rattle.text_model.specs.Whole.{ReadToEnd, whole};
+ghost use Rattle.hive_model.specs.Same.{texts};
 ghost use Rattle.hive_model.specs.Valid.{handle_names};
 ghost use Rattle.std.specs.List.{flat_map};
-ghost use Rattle.hive_top.specs.Tallied.{CountsAll};
+ghost use Rattle.report_text.specs.Tallied.{CountsAll};
 
-use crate::counts::Counts;
-use crate::report::{names_of, push_report};
 use hive_model::{EventRecord, EventStatus, Job};
+use report_text::{Counts, names_of, push_report};
 use serial_meaning::closure;
 use std::alloc::{AllocError, Global};
 
 /// Appends the whole text of a run over these events, and counts them. The only error is want of memory.
-#[tactic(auto, unfolding(hive_model::specs::Whole::whole))]
+#[tactic(auto, unfolding(text_model::specs::Whole::whole))]
 pub fn run(
     alloc: Global,
     job: &Job,
@@ -24,7 +24,7 @@ pub fn run(
 ) -> Result<Counts, AllocError>
     requires runnable { IsRunnable job.now }
     requires few { length events.now < 0x1_0000_0000 }
-    ensures text { OnOk result (out.new.items ≡ out.old.items ++ whole job.now (map (event_result job.now) events.now)) }
+    ensures text { OnOk result (out.new.items ≡ out.old.items ++ whole job.now (map (event_result job.now) events.now) ReadToEnd false) }
     ensures counts { IfOk result (CountsAll (map (event_result job.now) events.now)) }
 {
     let names = names_of(alloc, job)?;
@@ -41,7 +41,7 @@ fn push_events(
     out: &mut Vec<u8>,
 ) -> Result<Counts, AllocError>
     requires runnable { IsRunnable job.now }
-    requires named { map (λ name. name.now) names.now ≡ handle_names job.now }
+    requires named { texts names.now ≡ handle_names job.now }
     requires few { length events.now < 0x1_0000_0000 }
     ensures text { OnOk result (out.new.items ≡ out.old.items ++ flat_map (report job.now) (map (event_result job.now) events.now)) }
     ensures counts { IfOk result (CountsAll (map (event_result job.now) events.now)) }
@@ -62,7 +62,7 @@ fn push_event(
     out: &mut Vec<u8>,
 ) -> Result<EventStatus, AllocError>
     requires runnable { IsRunnable job.now }
-    requires named { map (λ name. name.now) names.now ≡ handle_names job.now }
+    requires named { texts names.now ≡ handle_names job.now }
     ensures text { OnOk result (out.new.items ≡ out.old.items ++ report job.now (event_result job.now event.now)) }
     ensures status { IfOk result (λ status. status ≡ (event_result job.now event.now).status) }
 {

@@ -2,6 +2,7 @@
 ghost use Rattle.std.specs.Prelude.{◌≡◌, ◌≢◌, ◌⊎◌, Bool, None, Some, [], IfSome, IsSomeAnd, List, ℕ, map};
 ghost use Rattle.std.specs.Io.KnownBytes.{Appends};
 ghost use Rattle.hive_edge.specs.Fault.{Calm, Rose};
+ghost use Rattle.hive_model.specs.Same.{texts};
 ghost use Rattle.hive_top.specs.Due.{IsDue};
 ghost use Rattle.hive_top.specs.Reply.{bytes_of};
 ghost use Rattle.hive_top.specs.ThinAnswer.{AppendsFront, CanRise, due, rose};
@@ -41,22 +42,25 @@ pub fn hive_plain<F: Shelf, S: Source, K: Sink, T: Sink>(
     sink: &mut K,
     trace: &mut T,
 ) -> Ran
-    requires files { (name : List ℕ) → file_of (map (λ word. word.now) words.now) ≡ Some name → F.has shelf.old name }
-    requires room { (shelf_failed source_failed : Bool) (text : List ℕ) → IfSome (due (map (λ word. word.now) words.now) (F.files shelf.old) (S.rest source.old) shelf_failed source_failed) (λ a. text ≡ a.text) → K.admits sink.old text }
+    requires files { (name : List ℕ) → file_of (texts words.now) ≡ Some name → F.has shelf.old name }
+    requires room { (shelf_failed source_failed : Bool) (text : List ℕ) → IfSome (due (texts words.now) (F.files shelf.old) (S.rest source.old) shelf_failed source_failed) (λ a. text ≡ a.text) → K.admits sink.old text }
 
     // The text that is due and its status, where the sink did not fail and memory sufficed.
     ensures answer { CanRise (F.faults shelf.new) → CanRise (S.faults source.new) → Calm (K.faults sink.old) (K.faults sink.new) → result.status ≢ Status.NoMemory
-        → IfSome (due (map (λ word. word.now) words.now) (F.files shelf.old) (S.rest source.old) (rose (F.faults shelf.old) (F.faults shelf.new)) (rose (S.faults source.old) (S.faults source.new)))
+        → IfSome (due (texts words.now) (F.files shelf.old) (S.rest source.old) (rose (F.faults shelf.old) (F.faults shelf.new)) (rose (S.faults source.old) (S.faults source.new)))
         (λ a. Appends (K.got sink.old) (K.got sink.new) a.text × (result.status ≡ a.status)) }
 
     // In any case a front of it.
     ensures front { CanRise (F.faults shelf.new) → CanRise (S.faults source.new)
-        → IfSome (due (map (λ word. word.now) words.now) (F.files shelf.old) (S.rest source.old) (rose (F.faults shelf.old) (F.faults shelf.new)) (rose (S.faults source.old) (S.faults source.new)))
+        → IfSome (due (texts words.now) (F.files shelf.old) (S.rest source.old) (rose (F.faults shelf.old) (F.faults shelf.new)) (rose (S.faults source.old) (S.faults source.new)))
         (λ a. AppendsFront (K.got sink.old) (K.got sink.new) a.text) }
 
     // The causes of the statuses.
-    ensures words { result.status ≡ Status.Words → file_of (map (λ word. word.now) words.now) ≡ None }
-    ensures wrong_words { file_of (map (λ word. word.now) words.now) ≡ None → (result.status ≡ Status.Words) ⊎ (result.status ≡ Status.Output) }
+    ensures words { result.status ≡ Status.Words → file_of (texts words.now) ≡ None }
+    ensures wrong_words { file_of (texts words.now) ≡ None → (result.status ≡ Status.Words) ⊎ (result.status ≡ Status.Output) }
+    // Wrong words touch neither the files nor the source.
+    ensures untouched_files { file_of (texts words.now) ≡ None → shelf.new ≡ shelf.old }
+    ensures untouched_source { file_of (texts words.now) ≡ None → source.new ≡ source.old }
     ensures input { result.status ≡ Status.Input → Rose (F.faults shelf.old) (F.faults shelf.new) ⊎ Rose (S.faults source.old) (S.faults source.new) }
     ensures output { result.status ≡ Status.Output → Rose (K.faults sink.old) (K.faults sink.new) }
     ensures failed { K.faults sink.new ≢ K.faults sink.old → result.status ≡ Status.Output }
@@ -82,10 +86,12 @@ fn reply_to<F: Shelf, S: Source>(
     shelf: &mut F,
     source: &mut S,
 ) -> Option<Reply>
-    requires { (name : List ℕ) → file_of (map (λ word. word.now) words.now) ≡ Some name → F.has shelf.old name }
-    ensures due { IfSome result (λ it. IsDue (map (λ word. word.now) words.now) (F.files shelf.old) (S.rest source.old) (F.faults shelf.old) (F.faults shelf.new) (S.faults source.old) (S.faults source.new) (bytes_of it.written) it.status) }
-    ensures words { IfSome result (λ it. it.status ≡ Status.Words → file_of (map (λ word. word.now) words.now) ≡ None) }
-    ensures wrong_words { file_of (map (λ word. word.now) words.now) ≡ None → IsSomeAnd result (λ it. it.status ≡ Status.Words) }
+    requires { (name : List ℕ) → file_of (texts words.now) ≡ Some name → F.has shelf.old name }
+    ensures due { IfSome result (λ it. IsDue (texts words.now) (F.files shelf.old) (S.rest source.old) (F.faults shelf.old) (F.faults shelf.new) (S.faults source.old) (S.faults source.new) (bytes_of it.written) it.status) }
+    ensures words { IfSome result (λ it. it.status ≡ Status.Words → file_of (texts words.now) ≡ None) }
+    ensures wrong_words { file_of (texts words.now) ≡ None → IsSomeAnd result (λ it. it.status ≡ Status.Words) }
+    ensures untouched_files { file_of (texts words.now) ≡ None → shelf.new ≡ shelf.old }
+    ensures untouched_source { file_of (texts words.now) ≡ None → source.new ≡ source.old }
     ensures output { IfSome result (λ it. it.status ≢ Status.Output) }
 {
     match file_name(words) {

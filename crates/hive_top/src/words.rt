@@ -1,13 +1,13 @@
 //! The words of the command line (docs/FORMATS.md, "Words").
-ghost use Rattle.std.specs.Prelude.{codes, ◌≡◌, map, nat_eq, take};
-ghost use Rattle.std.specs.Cmp.Lexicographic.{pointwise};
+ghost use Rattle.std.specs.Prelude.{◌≡◌, take};
 ghost use Rattle.std.specs.Option.{option_map};
-ghost use Rattle.hive_top.specs.Words.{file_of, is_file};
+ghost use Rattle.hive_model.specs.Same.{texts};
+ghost use Rattle.hive_top.specs.Words.{file_of, is_file, is_option as has_dashes};
 
 /// The file of the words `run FILE`, or `None` where the words are in no written form.
 #[tactic(auto, unfolding(crate::specs::Words::file_of))]
 pub fn file_name<'a>(words: &[&'a str]) -> Option<&'a str>
-    ensures { option_map (λ name. name.now) result ≡ file_of (map (λ word. word.now) words.now) }
+    ensures { option_map (λ name. name.now) result ≡ file_of (texts words.now) }
 {
     match words {
         [command, name] => {
@@ -28,7 +28,7 @@ fn is_file_name(word: &str) -> bool
 }
 
 fn is_option(word: &[u8]) -> bool
-    ensures { result ≡ pointwise nat_eq (take 2 word.now) (codes "--") }
+    ensures { result ≡ has_dashes word.now }
 {
     first_two(word) == b"--".as_slice()
 }

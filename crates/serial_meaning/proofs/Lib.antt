@@ -1,5 +1,10 @@
-pub mod Values
+-- lists, on which the others stand
 pub mod Joined
+pub mod Any
+-- expressions, nodes and places
+pub mod Values
+pub mod Nodes
 pub mod Stores
-pub mod RoundSteps
-pub mod WholeJob
+-- one round, and all of them
+pub mod Turns
+pub mod Rounds

@@ -1,2 +1,2 @@
 pub mod Evaluation
-pub mod Rounds
+pub mod Round

@@ -1,26 +1,27 @@
 //! Decisions of nodes.
 ghost use Rattle.std.specs.Prelude.{◌≡◌, IfOk, MatchOption, Some, None, map, slice_get};
-ghost use Rattle.std.specs.List.{list_any};
-ghost use Rattle.std.specs.Option.{option_flatten};
-ghost use Rattle.hive_model.specs.Decision.{before_flags, concurrent, decision_within, fixing, ignored, inverted, is_fixing, is_undecided, leaf_decision, neutral, node_decision, sequential, strict};
+ghost use Rattle.std.specs.List.{list_any, range_with_len};
+ghost use Rattle.hive_model.specs.Decision.{before_flags, concurrent, decision, decision_within, fixing, ignored, inverted, is_fixing, is_undecided, leaf_decision, neutral, node_decision, sequential, strict};
+ghost use Rattle.hive_model.specs.Event.{decisions_of};
+ghost use Rattle.hive_model.specs.Results.{outcome_at};
 
-use hive_model::{Decision, Member, Outcome, Sequence};
+use crate::store::outcome_at;
+use hive_model::{Decision, Job, MOST_DEPTH, Member, Outcome, Sequence};
 use std::alloc::{AllocError, Global};
 
-/// A leaf tells its algorithm's outcome.
-fn decide_leaf(outcomes: &[Option<Outcome>], number: u16) -> Decision
-    ensures { result ≡ leaf_decision (option_flatten (slice_get outcomes.now number)) }
+// A leaf tells its algorithm's outcome.
+fn leaf_decision(outcomes: &[Option<Outcome>], number: u16) -> Decision
+    ensures { result ≡ leaf_decision (outcome_at outcomes.now number) }
 {
-    match outcomes.get(usize::from(number)) {
-        Some(Some(Outcome::Accepted)) => Decision::True,
-        Some(Some(Outcome::Rejected)) => Decision::False,
-        Some(Some(Outcome::Failed(_, _))) => Decision::Undecided,
-        Some(None) => Decision::Undecided,
+    match outcome_at(outcomes, usize::from(number)) {
+        Some(Outcome::Accepted) => Decision::True,
+        Some(Outcome::Rejected) => Decision::False,
+        Some(Outcome::Failed(_, _)) => Decision::Undecided,
         None => Decision::Undecided,
     }
 }
 
-pub(crate) fn is_open(decision: Decision) -> bool
+pub(crate) fn is_undecided(decision: Decision) -> bool
     ensures { result ≡ is_undecided decision }
 {
     match decision {
@@ -30,8 +31,8 @@ pub(crate) fn is_open(decision: Decision) -> bool
     }
 }
 
-/// Whether a member's value fixes the node: true for an OR, false for an AND.
-pub(crate) fn fixes(mode_or: bool, decision: Decision) -> bool
+// Whether a member's value fixes the node: true for an OR, false for an AND.
+pub(crate) fn is_fixing(mode_or: bool, decision: Decision) -> bool
     ensures { result ≡ is_fixing mode_or decision }
 {
     match decision {
@@ -41,7 +42,7 @@ pub(crate) fn fixes(mode_or: bool, decision: Decision) -> bool
     }
 }
 
-fn fixing_value(mode_or: bool) -> Decision
+fn fixing(mode_or: bool) -> Decision
     ensures { result ≡ fixing mode_or }
 {
     if mode_or {
@@ -51,7 +52,7 @@ fn fixing_value(mode_or: bool) -> Decision
     }
 }
 
-fn neutral_value(mode_or: bool) -> Decision
+fn neutral(mode_or: bool) -> Decision
     ensures { result ≡ neutral mode_or }
 {
     if mode_or {
@@ -61,67 +62,67 @@ fn neutral_value(mode_or: bool) -> Decision
     }
 }
 
-fn any_open(members: &[Decision]) -> bool
+fn any_undecided(members: &[Decision]) -> bool
     ensures { result ≡ list_any is_undecided members.now }
 {
     for member in members {
-        if is_open(*member) {
+        if is_undecided(*member) {
             return true;
         }
     }
     false
 }
 
-fn any_fixes(mode_or: bool, members: &[Decision]) -> bool
+fn any_fixing(mode_or: bool, members: &[Decision]) -> bool
     ensures { result ≡ list_any (is_fixing mode_or) members.now }
 {
     for member in members {
-        if fixes(mode_or, *member) {
+        if is_fixing(mode_or, *member) {
             return true;
         }
     }
     false
 }
 
-/// All members have to be decided.
-fn decide_strict(mode_or: bool, members: &[Decision]) -> Decision
+// All members have to be decided.
+fn strict(mode_or: bool, members: &[Decision]) -> Decision
     ensures { result ≡ strict mode_or members.now }
 {
-    if any_open(members) {
+    if any_undecided(members) {
         return Decision::Undecided;
     }
-    if any_fixes(mode_or, members) {
-        return fixing_value(mode_or);
+    if any_fixing(mode_or, members) {
+        return fixing(mode_or);
     }
-    neutral_value(mode_or)
+    neutral(mode_or)
 }
 
-/// One member that fixes is enough.
-fn decide_concurrent(mode_or: bool, members: &[Decision]) -> Decision
+// One member that fixes is enough.
+fn concurrent(mode_or: bool, members: &[Decision]) -> Decision
     ensures { result ≡ concurrent mode_or members.now }
 {
-    if any_fixes(mode_or, members) {
-        return fixing_value(mode_or);
+    if any_fixing(mode_or, members) {
+        return fixing(mode_or);
     }
-    if any_open(members) {
+    if any_undecided(members) {
         return Decision::Undecided;
     }
-    neutral_value(mode_or)
+    neutral(mode_or)
 }
 
-/// The first member from the left that is undecided or fixes gives its value.
-fn decide_sequential(mode_or: bool, members: &[Decision]) -> Decision
+// The first member from the left that is undecided or fixes gives its value.
+fn sequential(mode_or: bool, members: &[Decision]) -> Decision
     ensures { result ≡ sequential mode_or members.now }
 {
     for member in members {
-        if is_open(*member) || fixes(mode_or, *member) {
+        if is_undecided(*member) || is_fixing(mode_or, *member) {
             return *member;
         }
     }
-    neutral_value(mode_or)
+    neutral(mode_or)
 }
 
-fn invert(invert: bool, decision: Decision) -> Decision
+fn inverted(invert: bool, decision: Decision) -> Decision
     ensures { result ≡ inverted invert decision }
 {
     if !invert {
@@ -134,7 +135,7 @@ fn invert(invert: bool, decision: Decision) -> Decision
     }
 }
 
-fn ignore(ignore_filter: bool, decision: Decision) -> Decision
+fn ignored(ignore_filter: bool, decision: Decision) -> Decision
     ensures { result ≡ ignored ignore_filter decision }
 {
     if !ignore_filter {
@@ -147,43 +148,45 @@ fn ignore(ignore_filter: bool, decision: Decision) -> Decision
     }
 }
 
-/// A node's value before `invert` and `ignore_filter`.
-fn decide_plain(sequence: &Sequence, members: &[Decision]) -> Decision
+// A node's value before `invert` and `ignore_filter`.
+fn before_flags(sequence: &Sequence, members: &[Decision]) -> Decision
     ensures { result ≡ before_flags sequence.now members.now }
 {
     if !sequence.short_circuit {
-        return decide_strict(sequence.mode_or, members);
+        return strict(sequence.mode_or, members);
     }
     if sequence.sequential {
-        return decide_sequential(sequence.mode_or, members);
+        return sequential(sequence.mode_or, members);
     }
-    decide_concurrent(sequence.mode_or, members)
+    concurrent(sequence.mode_or, members)
 }
 
-/// The decision of a node by those of its members (docs/PROCESSING.md, "Decisions").
+// The decision of a node by those of its members (docs/PROCESSING.md, "Decisions").
 #[tactic(auto, unfolding(hive_model::specs::Decision::node_decision))]
-fn decide_node(sequence: &Sequence, members: &[Decision]) -> Decision
+fn node_decision(sequence: &Sequence, members: &[Decision]) -> Decision
     ensures { result ≡ node_decision sequence.now members.now }
 {
-    let plain = decide_plain(sequence, members);
-    ignore(sequence.ignore_filter, invert(sequence.invert, plain))
+    let plain = before_flags(sequence, members);
+    ignored(sequence.ignore_filter, inverted(sequence.invert, plain))
 }
 
 pub(crate) fn sequence_at(sequences: &[Sequence], number: usize) -> Option<&Sequence>
-    ensures { MatchOption result (slice_get sequences.now number ≡ None) (λ q. slice_get sequences.now number ≡ Some q.now) }
+    ensures { MatchOption result (slice_get sequences.now number ≡ None)
+        (λ q. slice_get sequences.now number ≡ Some q.now) }
 {
     sequences.get(number)
 }
 
-/// The decision of a sequence, over at most `depth` sequences one below the other.
-pub(crate) fn decide_sequence(
+// The decision of a sequence, over at most `depth` sequences one below the other.
+fn decision_within(
     alloc: Global,
     sequences: &[Sequence],
     outcomes: &[Option<Outcome>],
     depth: u8,
     number: usize,
 ) -> Result<Decision, AllocError>
-    ensures { IfOk result (λ it. it ≡ decision_within depth sequences.now outcomes.now (Member.Seq number)) }
+    ensures { IfOk result (λ it.
+        it ≡ decision_within depth sequences.now outcomes.now (Member.Seq number)) }
 {
     if depth == 0 {
         return Ok(Decision::Undecided);
@@ -193,51 +196,75 @@ pub(crate) fn decide_sequence(
     };
     let mut decisions = Vec::new(alloc);
     for member in sequence.members() {
-        match member {
-            Member::Alg(leaf) => decisions.push(decide_leaf(outcomes, *leaf))?,
+        let decision = match member {
+            Member::Alg(leaf) => leaf_decision(outcomes, *leaf),
             Member::Seq(below) => {
-                let below = usize::from(*below);
-                decisions.push(decide_sequence(alloc, sequences, outcomes, depth - 1, below)?)?
+                decision_within(alloc, sequences, outcomes, depth - 1, usize::from(*below))?
             }
-        }
+        };
+        decisions.push(decision)?;
     }
-    Ok(decide_node(sequence, decisions.as_slice()))
+    Ok(node_decision(sequence, decisions.as_slice()))
 }
 
-fn decide(
+// The decision of a sequence.
+#[tactic(auto, unfolding(hive_model::specs::Decision::decision))]
+pub(crate) fn sequence_decision(
     alloc: Global,
-    sequences: &[Sequence],
+    job: &Job,
     outcomes: &[Option<Outcome>],
-    depth: u8,
+    number: usize,
+) -> Result<Decision, AllocError>
+    ensures { IfOk result (λ it. it ≡ decision job.now outcomes.now (Member.Seq number)) }
+{
+    let sequences = job.sequences();
+    Ok(decision_within(alloc, sequences, outcomes, MOST_DEPTH, number)?)
+}
+
+fn decision(
+    alloc: Global,
+    job: &Job,
+    outcomes: &[Option<Outcome>],
     member: Member,
 ) -> Result<Decision, AllocError>
-    ensures { IfOk result (λ it. it ≡ decision_within depth sequences.now outcomes.now member) }
+    ensures { IfOk result (λ it. it ≡ decision job.now outcomes.now member) }
 {
     match member {
-        Member::Alg(leaf) => Ok(decide_leaf(outcomes, leaf)),
-        Member::Seq(below) => Ok(decide_sequence(
-            alloc,
-            sequences,
-            outcomes,
-            depth,
-            usize::from(below),
-        )?),
+        Member::Alg(leaf) => Ok(leaf_decision(outcomes, leaf)),
+        Member::Seq(below) => {
+            let below = usize::from(below);
+            Ok(sequence_decision(alloc, job, outcomes, below)?)
+        }
     }
 }
 
-/// The decisions of members, over at most `depth` sequences one below the other.
-pub(crate) fn decide_members(
+// The decisions of members.
+pub(crate) fn member_decisions(
     alloc: Global,
-    sequences: &[Sequence],
+    job: &Job,
     outcomes: &[Option<Outcome>],
-    depth: u8,
     members: &[Member],
 ) -> Result<Vec<Decision>, AllocError>
-    ensures { IfOk result (λ it. it.items ≡ map (decision_within depth sequences.now outcomes.now) members.now) }
+    ensures { IfOk result (λ it. it.items ≡ map (decision job.now outcomes.now) members.now) }
 {
     let mut decisions = Vec::new(alloc);
     for member in members {
-        decisions.push(decide(alloc, sequences, outcomes, depth, *member)?)?;
+        decisions.push(decision(alloc, job, outcomes, *member)?)?;
+    }
+    Ok(decisions)
+}
+
+// The decision of each sequence, in written order.
+pub(crate) fn decisions_of(
+    alloc: Global,
+    job: &Job,
+    outcomes: &[Option<Outcome>],
+) -> Result<Vec<Decision>, AllocError>
+    ensures { IfOk result (λ it. it.items ≡ decisions_of job.now outcomes.now) }
+{
+    let mut decisions = Vec::new(alloc);
+    for number in 0..job.sequences().len() {
+        decisions.push(sequence_decision(alloc, job, outcomes, number)?)?;
     }
     Ok(decisions)
 }

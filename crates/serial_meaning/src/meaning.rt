@@ -1,95 +1,87 @@
 //! The result of an event.
-ghost use Rattle.std.specs.Prelude.{◌≡◌, IfOk, None, map};
+ghost use Rattle.std.specs.Prelude.{◌≡◌, IfOk};
 ghost use Rattle.std.specs.List.{list_any};
-ghost use Rattle.hive_model.specs.Decision.{decision_within};
-ghost use Rattle.hive_model.specs.Event.{decisions_from, end_of, ends_from, event_result, is_failed, is_waiting, status_of};
+ghost use Rattle.hive_model.specs.Event.{end_of, end_unrun, ends_of, event_result, is_failed, is_waiting, result_of, status_of};
+ghost use Rattle.hive_model.specs.Reached.{reached};
 ghost use Rattle.hive_model.specs.Runnable.{IsRunnable};
-ghost use Rattle.hive_model.specs.Store.{shown};
-ghost use Rattle.serial_meaning.specs.Rounds.{result_by};
 
-use crate::decision::decide_sequence;
+use crate::decision::decisions_of;
 use crate::execution::Execution;
-use crate::reached::has_reached;
-use crate::round::{DEPTH, reached_from, run_rounds};
-use crate::store::{outcomes_in, places_of, share_cells};
-use hive_model::{
-    Algorithm, Decision, End, EventRecord, EventResult, EventStatus, Job, Many, Member, Outcome,
-    Product, Sequence, Store,
-};
+use crate::live::is_live;
+use crate::reached::{is_reached, reached};
+use crate::round::run_rounds;
+use crate::store::{outcome_at, outcomes_of, store_of};
+use hive_model::{End, EventRecord, EventResult, EventStatus, Job, Many, Member, Outcome};
 use std::alloc::{AllocError, Global};
-use std::sync::Arc;
 
-/// The decision of each sequence.
-fn decide_all(
+// How an algorithm ends that hasn't run.
+fn end_unrun(is_reached: bool, live: bool) -> End
+    ensures { result ≡ end_unrun is_reached live }
+{
+    if !is_reached {
+        return End::Initial;
+    }
+    if !live {
+        return End::Withdrawn;
+    }
+    End::ControlReady
+}
+
+// How the algorithm of that number ends, where these members are reached.
+fn end_of(
     alloc: Global,
-    sequences: &[Sequence],
-    outcomes: &[Option<Outcome>],
-    depth: u8,
-) -> Result<Vec<Decision>, AllocError>
-    ensures { IfOk result (λ it. it.items ≡ decisions_from (decision_within depth sequences.now outcomes.now) 0 sequences.now) }
-{
-    let mut decisions = Vec::with_capacity(alloc, sequences.len())?;
-    for number in 0..sequences.len() {
-        decisions.push(decide_sequence(alloc, sequences, outcomes, depth, number)?)?;
-    }
-    Ok(decisions)
-}
-
-/// How an algorithm ends.
-fn end_with(members: &[Member], number: usize, outcome: Option<Outcome>) -> End
-    ensures { result ≡ end_of members.now number outcome }
-{
-    match outcome {
-        Some(Outcome::Accepted) => End::Accepted,
-        Some(Outcome::Rejected) => End::Rejected,
-        Some(Outcome::Failed(place, fault)) => End::Failed(place, fault),
-        None => end_unrun(members, number),
-    }
-}
-
-/// How an algorithm ends that hasn't run.
-fn end_unrun(members: &[Member], number: usize) -> End
-    ensures { result ≡ end_of members.now number None }
-{
-    if has_reached(members, number) {
-        return End::ControlReady;
-    }
-    End::Initial
-}
-
-/// How each algorithm ends.
-fn end_all(
-    alloc: Global,
+    job: &Job,
     members: &[Member],
     outcomes: &[Option<Outcome>],
-) -> Result<Vec<End>, AllocError>
-    ensures { IfOk result (λ it. it.items ≡ ends_from members.now 0 outcomes.now) }
+    number: usize,
+) -> Result<End, AllocError>
+    requires { members.now ≡ reached job.now outcomes.now }
+    ensures { IfOk result (λ it. it ≡ end_of job.now outcomes.now number) }
 {
-    let mut ends = Vec::with_capacity(alloc, outcomes.len())?;
-    for (number, outcome) in outcomes.iter().enumerate() {
-        ends.push(end_with(members, number, *outcome))?;
+    match outcome_at(outcomes, number) {
+        Some(Outcome::Accepted) => Ok(End::Accepted),
+        Some(Outcome::Rejected) => Ok(End::Rejected),
+        Some(Outcome::Failed(place, fault)) => Ok(End::Failed(place, fault)),
+        None => {
+            let live = is_live(alloc, job, outcomes, number)?;
+            Ok(end_unrun(is_reached(members, number), live))
+        }
+    }
+}
+
+// How each algorithm ends, in written order.
+#[tactic(auto, unfolding(hive_model::specs::Event::ends_of))]
+fn ends_of(alloc: Global, job: &Job, outcomes: &[Option<Outcome>]) -> Result<Vec<End>, AllocError>
+    ensures { IfOk result (λ it. it.items ≡ ends_of job.now outcomes.now) }
+{
+    let members = reached(alloc, job, outcomes)?;
+    let mut ends = Vec::new(alloc);
+    for number in 0..job.algorithms().len() {
+        ends.push(end_of(alloc, job, members.as_slice(), outcomes, number)?)?;
     }
     Ok(ends)
 }
 
-fn has_failed(end: End) -> bool
+fn is_failed(end: End) -> bool
     ensures { result ≡ is_failed end }
 {
     match end {
         End::Initial => false,
         End::ControlReady => false,
+        End::Withdrawn => false,
         End::Accepted => false,
         End::Rejected => false,
         End::Failed(_, _) => true,
     }
 }
 
-fn waits(end: End) -> bool
+fn is_waiting(end: End) -> bool
     ensures { result ≡ is_waiting end }
 {
     match end {
         End::Initial => false,
         End::ControlReady => true,
+        End::Withdrawn => false,
         End::Accepted => false,
         End::Rejected => false,
         End::Failed(_, _) => false,
@@ -100,92 +92,71 @@ fn any_failed(ends: &[End]) -> bool
     ensures { result ≡ list_any is_failed ends.now }
 {
     for end in ends {
-        if has_failed(*end) {
+        if is_failed(*end) {
             return true;
         }
     }
     false
 }
 
-fn any_waits(ends: &[End]) -> bool
+fn any_waiting(ends: &[End]) -> bool
     ensures { result ≡ list_any is_waiting ends.now }
 {
     for end in ends {
-        if waits(*end) {
+        if is_waiting(*end) {
             return true;
         }
     }
     false
 }
 
-/// How an event ends (docs/PROCESSING.md, "Statuses").
+// How an event ends (docs/PROCESSING.md, "Statuses").
 #[tactic(auto, unfolding(hive_model::specs::Event::status_of))]
-fn status_with(ends: &[End]) -> EventStatus
+fn status_of(ends: &[End]) -> EventStatus
     ensures { result ≡ status_of ends.now }
 {
     if any_failed(ends) {
         return EventStatus::Failed;
     }
-    if any_waits(ends) {
+    if any_waiting(ends) {
         return EventStatus::Stalled;
     }
     EventStatus::Ok
 }
 
-/// What the results of an event tell.
-fn result_from(
+// What these results of an event tell.
+#[tactic(auto, unfolding(hive_model::specs::Event::result_of))]
+fn result_of(
     alloc: Global,
-    event: u64,
-    sequences: &[Sequence],
-    top: u16,
-    depth: u8,
-    cells: &[Option<Arc<Product>>],
-    algorithms: &[Algorithm],
+    job: &Job,
+    event: &EventRecord,
     ran: &[Option<Execution>],
 ) -> Result<EventResult, AllocError>
-    ensures { IfOk result (λ it. it ≡ result_by event depth sequences.now top (map shown cells.now) algorithms.now ran.now) }
+    ensures { IfOk result (λ it. it ≡ result_of job.now event.now ran.now) }
 {
-    let outcomes = outcomes_in(alloc, ran)?;
-    let members = reached_from(alloc, sequences, top, depth, outcomes.as_slice())?;
-    let decisions = decide_all(alloc, sequences, outcomes.as_slice(), depth)?;
-    let ends = end_all(alloc, members.as_slice(), outcomes.as_slice())?;
-    let places = places_of(alloc, cells, algorithms, ran)?;
+    let outcomes = outcomes_of(alloc, ran)?;
+    let decisions = decisions_of(alloc, job, outcomes.as_slice())?;
+    let ends = ends_of(alloc, job, outcomes.as_slice())?;
+    let store = store_of(alloc, job, event, ran)?;
     Ok(EventResult {
-        event,
-        status: status_with(ends.as_slice()),
+        event: event.event,
+        status: status_of(ends.as_slice()),
         decisions: Many::from_vec(decisions),
         ends: Many::from_vec(ends),
-        store: Store::from_places(places),
+        store,
     })
 }
 
-/// The result of one event by itself: its algorithms run in rounds, each all that are enabled, until a round adds
-/// none (docs/PROCESSING.md, "Processing of an event").
+/// The result of one event by itself: its algorithms run in rounds, each all that can, until a
+/// round adds none (docs/PROCESSING.md, "Processing of an event").
 ///
-/// The record needs no particular shape. The only error is want of memory.
+/// The record needs no particular shape: too few cells leave raw handles empty, and those too many
+/// are passed over. The only error is that memory ran out.
+#[tactic(auto, unfolding(hive_model::specs::Event::event_result))]
 pub fn closure(alloc: Global, job: &Job, event: &EventRecord) -> Result<EventResult, AllocError>
     requires { IsRunnable job.now }
     ensures { IfOk result (λ it. it ≡ event_result job.now event.now) }
 {
-    let sequences = job.sequences();
-    let algorithms = job.algorithms();
-    let cells = share_cells(alloc, event.cells())?;
-    let ran = run_rounds(
-        alloc,
-        sequences,
-        job.top,
-        DEPTH,
-        cells.as_slice(),
-        algorithms,
-    )?;
-    Ok(result_from(
-        alloc,
-        event.event,
-        sequences,
-        job.top,
-        DEPTH,
-        cells.as_slice(),
-        algorithms,
-        ran.as_slice(),
-    )?)
+    let ran = run_rounds(alloc, job, event)?;
+    Ok(result_of(alloc, job, event, ran.as_slice())?)
 }

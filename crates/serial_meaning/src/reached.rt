@@ -1,33 +1,33 @@
 //! What control flow has reached.
-ghost use Rattle.std.specs.Prelude.{◌≡◌, ◌++◌, OnOk, IfOk};
-ghost use Rattle.std.specs.List.{prefix_len};
-ghost use Rattle.hive_model.specs.Decision.{decision_within};
-ghost use Rattle.hive_model.specs.Reached.{entered, is_leaf_of, is_reached, passes, reached_within};
+ghost use Rattle.std.specs.Prelude.{◌≡◌, ◌++◌, OnOk, IfOk, map};
+ghost use Rattle.std.specs.List.{list_any, prefix_len};
+ghost use Rattle.hive_model.specs.Decision.{decision};
+ghost use Rattle.hive_model.specs.Reached.{entered, is_leaf_of, is_reached, passes, reached, reached_within};
 
-use crate::decision::{decide_members, fixes, is_open, sequence_at};
-use hive_model::{Decision, Member, Outcome, Sequence};
+use crate::decision::{is_fixing, is_undecided, member_decisions, sequence_at};
+use hive_model::{Decision, Job, MOST_DEPTH, Member, Outcome, Sequence};
 use std::alloc::{AllocError, Global};
 
-/// Whether a sequential node goes on behind a member with this decision.
-fn goes_on(sequence: &Sequence, decision: Decision) -> bool
+// Whether a sequential node goes on after a member with this decision.
+fn passes(sequence: &Sequence, decision: Decision) -> bool
     ensures { result ≡ passes sequence.now decision }
 {
-    if is_open(decision) {
+    if is_undecided(decision) {
         return false;
     }
-    if sequence.short_circuit && fixes(sequence.mode_or, decision) {
+    if sequence.short_circuit && is_fixing(sequence.mode_or, decision) {
         return false;
     }
     true
 }
 
-/// How many members, from the first on, a sequential node goes past.
+// How many members, from the first on, a sequential node goes past.
 fn count_passed(sequence: &Sequence, decisions: &[Decision]) -> usize
     ensures { result ≡ prefix_len (passes sequence.now) decisions.now }
 {
     let mut passed = 0;
     for decision in decisions {
-        if !goes_on(sequence, *decision) {
+        if !passes(sequence, *decision) {
             return passed;
         }
         passed += 1;
@@ -35,9 +35,9 @@ fn count_passed(sequence: &Sequence, decisions: &[Decision]) -> usize
     passed
 }
 
-/// The members that a reached node enters.
+// The members that a reached node enters, where these are the members' decisions.
 #[tactic(auto, unfolding(hive_model::specs::Reached::entered))]
-fn entered_members<'a>(sequence: &'a Sequence, decisions: &[Decision]) -> &'a [Member]
+fn entered<'a>(sequence: &'a Sequence, decisions: &[Decision]) -> &'a [Member]
     ensures { result.now ≡ entered sequence.now decisions.now }
 {
     let members = sequence.members();
@@ -52,47 +52,66 @@ fn entered_members<'a>(sequence: &'a Sequence, decisions: &[Decision]) -> &'a [M
     }
 }
 
-/// Appends what is reached from a reached sequence, itself among it, over at most `depth` sequences one below
-/// the other. Decisions look `limit` sequences deep.
-pub(crate) fn reach(
+// The members that a reached node enters.
+fn entered_members<'a>(
     alloc: Global,
-    sequences: &[Sequence],
+    job: &Job,
     outcomes: &[Option<Outcome>],
-    limit: u8,
+    sequence: &'a Sequence,
+) -> Result<&'a [Member], AllocError>
+    ensures { IfOk result (λ it.
+        it.now ≡ entered sequence.now (map (decision job.now outcomes.now) sequence.now.members)) }
+{
+    let decisions = member_decisions(alloc, job, outcomes, sequence.members())?;
+    Ok(entered(sequence, decisions.as_slice()))
+}
+
+// Appends what is reached from a reached sequence, itself among it, over at most `depth` sequences
+// one below the other.
+fn reach(
+    alloc: Global,
+    job: &Job,
+    outcomes: &[Option<Outcome>],
     depth: u8,
     number: u16,
-    reached: &mut Vec<Member>,
+    members: &mut Vec<Member>,
 ) -> Result<(), AllocError>
-    ensures { OnOk result (reached.new.items
-        ≡ reached.old.items
-        ++ reached_within depth sequences.now (decision_within limit sequences.now outcomes.now) (Member.Seq number)) }
+    ensures { OnOk result (members.new.items
+        ≡ members.old.items
+        ++ reached_within depth job.now.sequences (decision job.now outcomes.now)
+        (Member.Seq number)) }
 {
     if depth == 0 {
         return Ok(());
     }
-    reached.push(Member::Seq(number))?;
-    let Some(sequence) = sequence_at(sequences, usize::from(number)) else {
+    members.push(Member::Seq(number))?;
+    let Some(sequence) = sequence_at(job.sequences(), usize::from(number)) else {
         return Ok(());
     };
-    let decisions = decide_members(alloc, sequences, outcomes, limit, sequence.members())?;
-    for member in entered_members(sequence, decisions.as_slice()) {
+    for member in entered_members(alloc, job, outcomes, sequence)? {
         match member {
-            Member::Alg(leaf) => reached.push(Member::Alg(*leaf))?,
-            Member::Seq(below) => reach(
-                alloc,
-                sequences,
-                outcomes,
-                limit,
-                depth - 1,
-                *below,
-                reached,
-            )?,
+            Member::Alg(leaf) => members.push(Member::Alg(*leaf))?,
+            Member::Seq(below) => reach(alloc, job, outcomes, depth - 1, *below, members)?,
         }
     }
     Ok(())
 }
 
-fn is_leaf(member: Member, number: usize) -> bool
+// What is reached, from the top on.
+#[tactic(auto, unfolding(hive_model::specs::Reached::reached))]
+pub(crate) fn reached(
+    alloc: Global,
+    job: &Job,
+    outcomes: &[Option<Outcome>],
+) -> Result<Vec<Member>, AllocError>
+    ensures { IfOk result (λ it. it.items ≡ reached job.now outcomes.now) }
+{
+    let mut members = Vec::new(alloc);
+    reach(alloc, job, outcomes, MOST_DEPTH, job.top, &mut members)?;
+    Ok(members)
+}
+
+fn is_leaf_of(member: Member, number: usize) -> bool
     ensures { result ≡ is_leaf_of number member }
 {
     match member {
@@ -101,12 +120,12 @@ fn is_leaf(member: Member, number: usize) -> bool
     }
 }
 
-/// Whether an algorithm is reached, where these members are.
-pub(crate) fn has_reached(members: &[Member], number: usize) -> bool
+// Whether the algorithm is reached, where these members are.
+pub(crate) fn is_reached(members: &[Member], number: usize) -> bool
     ensures { result ≡ is_reached members.now number }
 {
     for member in members {
-        if is_leaf(*member, number) {
+        if is_leaf_of(*member, number) {
             return true;
         }
     }

@@ -1,140 +1,144 @@
-//! The event store of results so far.
-ghost use Rattle.std.specs.Prelude.{◌≡◌, ◌++◌, [], IfOk, OnOk, is_some, map, slice_get};
+//! The event store that results give, and their outcomes.
+ghost use Rattle.std.specs.Prelude.{◌≡◌, ◌++◌, IfOk, OnOk, Some, map, slice_get};
 ghost use Rattle.std.specs.Arc.{arc_value};
-ghost use Rattle.std.specs.Option.{option_flatten, option_map, option_map_or};
 ghost use Rattle.hive_model.specs.Enabled.{all_there, inputs_in, product_in};
-ghost use Rattle.hive_model.specs.Execution.{Execution as Executed};
-ghost use Rattle.hive_model.specs.Results.{left_by, outcome_of, outcomes, placed};
+ghost use Rattle.hive_model.specs.Results.{fitted, kept, left_by, outcome_at, outcome_of, outcomes, ran_at, store};
 ghost use Rattle.hive_model.specs.Store.{shown};
-ghost use Rattle.serial_meaning.specs.Evaluation.{outputs_of};
 
 use crate::execution::Execution;
-use hive_model::{Algorithm, Duplicate, Outcome, Product};
+use hive_model::{Algorithm, Duplicate, EventRecord, Job, Outcome, Product, Store};
 use std::alloc::{AllocError, Global};
 use std::sync::Arc;
 
-/// The cells of a record, each product shared from here on.
-pub(crate) fn share_cells(
+// A copy of the cell of that number, which a record with too few cells lacks.
+fn cell_at(
     alloc: Global,
     cells: &[Option<Product>],
-) -> Result<Vec<Option<Arc<Product>>>, AllocError>
-    ensures { IfOk result (λ it. map shown it.items ≡ cells.now) }
+    number: usize,
+) -> Result<Option<Arc<Product>>, AllocError>
+    ensures { IfOk result (λ it. shown it ≡ product_in cells.now number) }
 {
-    let mut shared = Vec::with_capacity(alloc, cells.len())?;
-    for cell in cells {
-        match cell {
-            Some(product) => {
-                let product = product.copy(alloc)?;
-                shared.push(Some(Arc::new(alloc, product)?))?;
-            }
-            None => shared.push(None)?,
-        }
-    }
-    Ok(shared)
-}
-
-/// One more owner of what a place holds.
-fn share(place: &Option<Arc<Product>>) -> Result<Option<Arc<Product>>, AllocError>
-    ensures { IfOk result (λ it. shown it ≡ shown place.now) }
-{
-    match place {
-        Some(product) => Ok(Some(Arc::try_clone(product)?)),
+    match cells.get(number) {
+        Some(Some(product)) => Ok(Some(Arc::new(alloc, product.copy(alloc)?)?)),
+        Some(None) => Ok(None),
         None => Ok(None),
     }
 }
 
-/// The outputs that an algorithm's execution left, if it has run.
-fn outputs_at(ran: &[Option<Execution>], number: usize) -> &[Arc<Product>]
-    ensures { map arc_value result.now ≡ outputs_of (option_flatten (slice_get ran.now number)) }
+// Appends `count` places, the first of them as these cells are.
+fn push_cells(
+    alloc: Global,
+    places: &mut Vec<Option<Arc<Product>>>,
+    count: usize,
+    cells: &[Option<Product>],
+) -> Result<(), AllocError>
+    ensures { OnOk result (map shown places.new.items
+        ≡ map shown places.old.items ++ fitted count cells.now) }
 {
-    match ran.get(number) {
-        Some(Some(execution)) => execution.outputs.as_slice(),
-        Some(None) => &[],
-        None => &[],
+    for number in 0..count {
+        places.push(cell_at(alloc, cells, number)?)?;
+    }
+    Ok(())
+}
+
+// One more owner of the output of that number, if it is there.
+fn output_at(outputs: &[Arc<Product>], number: usize) -> Result<Option<Arc<Product>>, AllocError>
+    ensures { IfOk result (λ it. shown it ≡ slice_get (map arc_value outputs.now) number) }
+{
+    match outputs.get(number) {
+        Some(output) => Ok(Some(Arc::try_clone(output)?)),
+        None => Ok(None),
     }
 }
 
-/// Appends `count` places, the first of them with these outputs.
+// Appends `count` places, the first of them with these outputs.
 fn push_outputs(
     places: &mut Vec<Option<Arc<Product>>>,
     count: usize,
     outputs: &[Arc<Product>],
 ) -> Result<(), AllocError>
-    ensures { OnOk result (map shown places.new.items ≡ map shown places.old.items ++ placed count (map arc_value outputs.now)) }
+    ensures { OnOk result (map shown places.new.items
+        ≡ map shown places.old.items ++ fitted count (map Some (map arc_value outputs.now))) }
 {
     for number in 0..count {
-        match outputs.get(number) {
-            Some(output) => places.push(Some(Arc::try_clone(output)?))?,
-            None => places.push(None)?,
-        }
+        places.push(output_at(outputs, number)?)?;
     }
     Ok(())
 }
 
-/// The places of the event store: the record's cells, and what each algorithm's execution left.
-pub(crate) fn places_of(
-    alloc: Global,
-    cells: &[Option<Arc<Product>>],
+// What the event store takes of the algorithm of that number.
+fn kept_at(ran: &[Option<Execution>], number: usize) -> &[Arc<Product>]
+    ensures { map arc_value result.now ≡ kept (ran_at ran.now number) }
+{
+    match ran.get(number) {
+        Some(Some(execution)) => execution.kept(),
+        Some(None) => &[],
+        None => &[],
+    }
+}
+
+// Appends the places of all outputs, algorithm by algorithm.
+fn push_left(
+    places: &mut Vec<Option<Arc<Product>>>,
     algorithms: &[Algorithm],
     ran: &[Option<Execution>],
-) -> Result<Vec<Option<Arc<Product>>>, AllocError>
-    ensures { IfOk result (λ it. map shown it.items ≡ map shown cells.now ++ left_by algorithms.now ran.now) }
+) -> Result<(), AllocError>
+    ensures { OnOk result (map shown places.new.items
+        ≡ map shown places.old.items ++ left_by algorithms.now ran.now) }
+{
+    for (number, algorithm) in algorithms.iter().enumerate() {
+        let outputs = kept_at(ran, number);
+        push_outputs(places, algorithm.outputs().len(), outputs)?;
+    }
+    Ok(())
+}
+
+// The event store that these results give. The only error is that memory ran out.
+#[tactic(auto, unfolding(hive_model::specs::Results::store))]
+pub(crate) fn store_of(
+    alloc: Global,
+    job: &Job,
+    event: &EventRecord,
+    ran: &[Option<Execution>],
+) -> Result<Store, AllocError>
+    ensures { IfOk result (λ it. it ≡ store job.now event.now ran.now) }
 {
     let mut places = Vec::new(alloc);
-    for cell in cells {
-        places.push(share(cell)?)?;
-    }
-    for (number, algorithm) in algorithms.iter().enumerate() {
-        push_outputs(
-            &mut places,
-            algorithm.outputs().len(),
-            outputs_at(ran, number),
-        )?;
-    }
-    Ok(places)
+    push_cells(alloc, &mut places, job.raws().len(), event.cells())?;
+    push_left(&mut places, job.algorithms(), ran)?;
+    Ok(Store::from_places(places))
 }
 
-/// The product in a place, if there is one.
-fn product_at(places: &[Option<Arc<Product>>], handle: u16) -> Option<&Arc<Product>>
-    ensures { option_map (λ it. arc_value it.now) result ≡ product_in (map shown places.now) handle }
-{
-    match places.get(usize::from(handle)) {
-        Some(Some(product)) => Some(product),
-        Some(None) => None,
-        None => None,
-    }
-}
-
-/// Whether each of these inputs is there.
-pub(crate) fn are_there(places: &[Option<Arc<Product>>], inputs: &[u16]) -> bool
-    ensures { result ≡ all_there (map shown places.now) inputs.now }
+// Whether each of these inputs is there.
+pub(crate) fn all_there(store: &Store, inputs: &[u16]) -> bool
+    ensures { result ≡ all_there store.now inputs.now }
 {
     for input in inputs {
-        if product_at(places, *input).is_none() {
+        if !store.has(*input) {
             return false;
         }
     }
     true
 }
 
-/// The products of the inputs that are there, in input order.
-pub(crate) fn inputs_from(
+// The products of the inputs that are there, in input order.
+pub(crate) fn inputs_in(
     alloc: Global,
-    places: &[Option<Arc<Product>>],
+    store: &Store,
     inputs: &[u16],
 ) -> Result<Vec<Arc<Product>>, AllocError>
-    ensures { IfOk result (λ it. map arc_value it.items ≡ inputs_in (map shown places.now) inputs.now) }
+    ensures { IfOk result (λ it. map arc_value it.items ≡ inputs_in store.now inputs.now) }
 {
     let mut products = Vec::new(alloc);
     for input in inputs {
-        if let Some(product) = product_at(places, *input) {
-            products.push(Arc::try_clone(product)?)?;
+        if let Some(product) = store.share(*input)? {
+            products.push(product)?;
         }
     }
     Ok(products)
 }
 
-fn outcome_in(ran: &Option<Execution>) -> Option<Outcome>
+pub(crate) fn outcome_of(ran: &Option<Execution>) -> Option<Outcome>
     ensures { result ≡ outcome_of ran.now }
 {
     match ran {
@@ -143,8 +147,8 @@ fn outcome_in(ran: &Option<Execution>) -> Option<Outcome>
     }
 }
 
-/// The outcomes alone.
-pub(crate) fn outcomes_in(
+// The outcomes alone.
+pub(crate) fn outcomes_of(
     alloc: Global,
     ran: &[Option<Execution>],
 ) -> Result<Vec<Option<Outcome>>, AllocError>
@@ -152,7 +156,17 @@ pub(crate) fn outcomes_in(
 {
     let mut outcomes = Vec::with_capacity(alloc, ran.len())?;
     for it in ran {
-        outcomes.push(outcome_in(it))?;
+        outcomes.push(outcome_of(it))?;
     }
     Ok(outcomes)
+}
+
+// The outcome of the algorithm of that number, if it has run.
+pub(crate) fn outcome_at(outcomes: &[Option<Outcome>], number: usize) -> Option<Outcome>
+    ensures { result ≡ outcome_at outcomes.now number }
+{
+    match outcomes.get(number) {
+        Some(outcome) => *outcome,
+        None => None,
+    }
 }

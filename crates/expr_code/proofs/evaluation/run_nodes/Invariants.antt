@@ -1,5 +1,6 @@
 use Rattle.std.proofs.Common.{◌≡◌, ◌≤◌, [], drop, length}
-use Rattle.expr_code.specs.Stack.{after_nodes, products, room, seen_by, stack_in}
+use Rattle.expr_code.specs.Frame.{products, seen_by}
+use Rattle.expr_code.specs.Stack.{after_nodes, room, stack_in}
 use Rattle.expr_code.proofs.evaluation.run_nodes.Given as goal
 
 abbrev pub invariant-loop-node : goal.invariant-loop-node

@@ -6,4 +6,5 @@ use Rattle.expr_code.proofs.frame.index_of.Given as goal
 
 abbrev pub invariant-loop-index : goal.invariant-loop-index
 invariant-loop-index l =
-    IsFurther l.handle l.body.inputs (map arc_value l.frame.inputs.now) (enumerate_from l.body.first_output (map arc_value l.frame.outputs.now)) l.index
+    IsFurther l.handle l.body.inputs (map arc_value l.frame.inputs.now)
+    (enumerate_from l.body.first_output (map arc_value l.frame.outputs.now)) l.index

@@ -1,4 +1,4 @@
-use Rattle.hive_model.proofs.Validity.{valid-performs, performs-executes}
+use Rattle.event_laws.proofs.Validity.{valid-performs, performs-executes}
 use Rattle.expr_code.proofs.laws.valid_can_be_claimed.Goals as goal
 
 pub returns-clause-claimed : goal.returns-clause-claimed

@@ -2,13 +2,13 @@ use Rattle.std.proofs.Common.{◌≡◌, ℕ, ◌+◌, ◌-◌, ◌++◌, [], �
 use Rattle.std.proofs.lemmas.Int.{to_z-of_z}
 use Rattle.std.proofs.lemmas.List.{append_assoc}
 use Rattle.std.proofs.lemmas.Result.{err_from_is_err_and}
-use Rattle.hive_model.specs.Grammar.{Reading, begun_by, expr, factor, further, grouped, most, operand, operation}
-use Rattle.hive_model.specs.Written.{Over, Bare, And}
-use Rattle.hive_model.specs.declared.token.Form.TheVariants as forms
-use Rattle.hive_model.specs.declared.expr_refusal.ExprRefusal.TheVariants.{Unexpected, TooDeep}
-use Rattle.hive_model.specs.declared.token.Symbol.{Symbol}
-use Rattle.hive_model.specs.declared.token.Token.{Token}
-use Rattle.hive_model.specs.declared.token.Symbol.TheVariants.{Close, Comma}
+use Rattle.text_model.specs.Grammar.{Reading, begun_by, expr, factor, further, grouped, most, operand, operation}
+use Rattle.text_model.specs.Written.{Over, Bare, And}
+use Rattle.text_model.specs.declared.token.Form.TheVariants as forms
+use Rattle.text_model.specs.declared.expr_refusal.ExprRefusal.TheVariants.{Unexpected, TooDeep}
+use Rattle.text_model.specs.declared.token.Symbol.{Symbol}
+use Rattle.text_model.specs.declared.token.Token.{Token}
+use Rattle.text_model.specs.declared.token.Symbol.TheVariants.{Close, Comma}
 use Rattle.expr_text.specs.Parts.{below, part, postfix, postfix_all, count}
 use Rattle.expr_text.proofs.Readings.{row-begins, row-refused, grouped-more, grouped-refused, grouped-end, grouped-full, postfix-operation, arguments-begin, arguments-refused, further-more, further-refused, further-end, further-full, factor-begun, below-some, below-none, signed-read, signed-refused, bracketed-read, bracketed-open, bracketed-refused, called-read, called-open, called-refused, named-leaf, named-call}
 use Rattle.expr_text.proofs.grammar.+grammar.Goals as goal

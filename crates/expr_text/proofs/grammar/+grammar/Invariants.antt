@@ -1,9 +1,9 @@
 -- The grammar's functions recurse to fewer open brackets and signs, and at one depth from an expression down to a factor.
 use Rattle.std.proofs.Common.{◌≡◌, ℕ, ◌+◌, ◌-◌, ◌*◌, ◌++◌}
-use Rattle.hive_model.specs.Grammar.{arguments, expr, factor, further, grouped, operand, row}
-use Rattle.hive_model.specs.Written.{Written, Operands}
-use Rattle.hive_model.specs.declared.token.Level.{Level}
-use Rattle.hive_model.specs.declared.token.Level.TheVariants.{Compare, Sum, Product}
+use Rattle.text_model.specs.Grammar.{arguments, expr, factor, further, grouped, operand, row}
+use Rattle.text_model.specs.Written.{Written, Operands}
+use Rattle.text_model.specs.declared.token.Level.{Level}
+use Rattle.text_model.specs.declared.token.Level.TheVariants.{Compare, Sum, Product}
 use Rattle.expr_text.specs.Parts.{count, postfix, postfix_all}
 use Rattle.expr_text.proofs.grammar.+grammar.Given as goal
 

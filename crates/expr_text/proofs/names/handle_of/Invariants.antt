@@ -1,6 +1,6 @@
 -- The names so far are others.
 use Rattle.std.proofs.Common.{◌≡◌, drop}
-use Rattle.hive_model.specs.ExprText.{handle_of}
+use Rattle.text_model.specs.ExprText.{handle_of}
 use Rattle.expr_text.proofs.names.handle_of.Given as goal
 
 abbrev pub invariant-loop-named : goal.invariant-loop-named

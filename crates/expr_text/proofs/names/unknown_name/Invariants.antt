@@ -1,6 +1,6 @@
 -- The tokens so far have no unknown name.
 use Rattle.std.proofs.Common.{◌≡◌, length}
-use Rattle.hive_model.specs.ExprText.{unknown_name}
+use Rattle.text_model.specs.ExprText.{unknown_name}
 use Rattle.expr_text.proofs.names.unknown_name.Given as goal
 
 abbrev pub invariant-tokens : goal.invariant-tokens

@@ -1,6 +1,6 @@
 -- The tokens so far, and those of the bytes from `at` on, are those of the text.
 use Rattle.std.proofs.Common.{◌≡◌, ◌≤◌, ◌-◌, length, drop}
-use Rattle.hive_model.specs.Tokens.{tokens_from, tokens_of}
+use Rattle.text_model.specs.Tokens.{tokens_from, tokens_of}
 use Rattle.expr_text.proofs.TokenLists.{with_front}
 use Rattle.expr_text.proofs.symbols.tokens.Given as goal
 

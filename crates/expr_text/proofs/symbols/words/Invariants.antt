@@ -1,6 +1,6 @@
 -- The bytes so far belong to the front.
 use Rattle.std.proofs.Common.{◌≡◌, ◌+◌, drop}
-use Rattle.hive_model.specs.Tokens.{is_word}
+use Rattle.text_model.specs.Tokens.{is_word}
 use Rattle.std.specs.List.{prefix_len}
 use Rattle.expr_text.proofs.symbols.words.Given as goal
 

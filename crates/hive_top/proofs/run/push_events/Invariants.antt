@@ -1,8 +1,8 @@
 use Rattle.std.proofs.Common.{◌≡◌, ◌++◌, drop, map}
 use Rattle.std.specs.List.{flat_map}
 use Rattle.hive_model.specs.Event.{event_result}
-use Rattle.hive_model.specs.Report.{report}
-use Rattle.hive_top.specs.Tallied.{IsTallied}
+use Rattle.text_model.specs.Report.{report}
+use Rattle.report_text.specs.Tallied.{IsTallied}
 use Rattle.hive_top.proofs.run.push_events.Given as goal
 
 abbrev pub invariant-loop-event : goal.invariant-loop-event

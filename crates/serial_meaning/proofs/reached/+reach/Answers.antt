@@ -1,52 +1,67 @@
-use Rattle.std.proofs.Common.{◌≡◌, ◌<◌, ◌-◌, ◌++◌, ◌∷◌, Some, None, map, slice_get, sym, ap, ◌∙◌, arith}
-use Rattle.std.specs.List.{flat_map}
-use Rattle.std.proofs.lemmas.List.{take_all}
-use Rattle.hive_model.specs.Decision.{decision_within}
-use Rattle.hive_model.specs.Reached.{entered, reached_within}
-use Rattle.hive_model.specs.declared.sequence.Member.TheVariants.{Alg, Seq}
-use Rattle.hive_model.proofs.Nesting.{reached_within-leaf, reached_within-sequence, reached_within-zero, reached_within-none}
+use Rattle.std.proofs.Common.{◌≡◌, ℕ, List, ◌<◌, ◌-◌, [], ◌∷◌, refl, get_or, slice_get, sym, ap, ◌∙◌, arith}
 use Rattle.std.proofs.lemmas.List.{append-nil}
-use Rattle.serial_meaning.proofs.Joined.{pieces_more}
+use Rattle.event_laws.proofs.Nesting.{reached_within-leaf, reached_within-sequence, reached_within-zero, reached_within-none}
+use Rattle.hive_model.specs.Decision.{decision}
+use Rattle.hive_model.specs.Reached.{reached_within}
+use Rattle.hive_model.specs.Sequence.{Sequence}
+use Rattle.hive_model.specs.declared.sequence.Member.TheVariants.{Alg, Seq}
+use Rattle.serial_meaning.proofs.Joined.{pieces_more, pieces_all}
 use Rattle.serial_meaning.proofs.reached.+reach.Goals as goal
 use Rattle.serial_meaning.proofs.reached.+reach.Goals.{in-Alg+in_ok-push-in-Alg, in-Seq+in_ok-reach-in-Seq}
 
+-- the sequence of that number, where list and number went through calls
+got : (sequences them : List Sequence) (number went : ℕ) → them ≡ sequences → went ≡ number →
+    slice_get sequences number ≡ slice_get them went
+got sequences them number went e is = rw (e, is) refl
+
 pub returns-then-depth-eq0 : goal.returns-then-depth-eq0
 returns-then-depth-eq0 t c =
-    let decide = decision_within c.args.limit c.args.sequences.now c.args.outcomes.now in
-    rw (reached_within-zero c.args.depth c.args.sequences.now decide c.args.number c.if-depth-eq0.true) (sym (append-nil c.args.reached.now.items))
+    let decide = decision c.args.job.now c.args.outcomes.now in
+    rw (reached_within-zero c.args.depth c.args.job.now.sequences decide c.args.number c.if-depth-eq0.true)
+    (sym (append-nil c.args.members.now.items))
 
 pub returns-in_default : goal.returns-in_default
 returns-in_default t c =
-    let decide = decision_within c.args.limit c.args.sequences.now c.args.outcomes.now in
+    let decide = decision c.args.job.now c.args.outcomes.now in
+    let sequences = c.args.job.now.sequences in
     let some : 0 < c.args.depth = omega arith in
-    let nowhere : slice_get c.args.sequences.now c.args.number ≡ None = ap (slice_get c.args.sequences.now) (sym c.from.ensures) ∙ c.in_default.ensures in
-    rw (reached_within-none c.args.depth c.args.sequences.now decide c.args.number some nowhere) c.in_ok-push.ensures.items
+    let found = got sequences c.sequences.result.now c.args.number c.from.result c.sequences.ensures c.from.ensures in
+    rw (reached_within-none c.args.depth sequences decide c.args.number some (found ∙ c.in_default.ensures))
+    c.in_ok-push.ensures.items
 
 pub loop-member-preserved : goal.loop-member-preserved
 loop-member-preserved t c =
-    let decide = decision_within c.args.limit c.args.sequences.now c.args.outcomes.now in
-    let pieces = reached_within (c.args.depth - 1) c.args.sequences.now decide in
-    let members = c.entered_members-member-items.result.now in
-    let now = c.loop-member.reached.items in
+    let decide = decision c.args.job.now c.args.outcomes.now in
+    let sequences = c.args.job.now.sequences in
+    let pieces = reached_within (c.args.depth - 1) sequences decide in
+    let members = c.in_ok-member-items.member-items.now in
+    let index = c.loop-member.member-index in
+    let m = get_or members index (Alg 0) in
+    let now = c.loop-member.members.items in
+    let more = pieces_more pieces members index (Alg 0) c.args.members.now.items now in
     elim c.match-member.branch [
       | in-Alg+in_ok-push-in-Alg w ↦
-          rw w.reached-is
-          (pieces_more pieces members c.loop-member.member-index (Alg 0) c.args.reached.now.items now w.push-in-Alg.new.self.items (Seq c.args.number) c.loop-member-test.true c.loop-member.invariant
-          (w.in_ok-push-in-Alg.ensures.items ∙ ap (λ ys. now ++ ys) (sym (reached_within-leaf (c.args.depth - 1) c.args.sequences.now decide w.in-Alg.leaf) ∙ ap pieces (sym w.in-Alg.is))))
+          let leaf : Alg w.in-Alg.leaf ∷ [] ≡ pieces m =
+          sym (reached_within-leaf (c.args.depth - 1) sequences decide w.in-Alg.leaf) ∙ ap pieces (sym w.in-Alg.is)
+          in
+          rw w.members-is
+          (more w.push-in-Alg.new.self.items _ (Seq c.args.number) c.loop-member-test.true c.loop-member.invariant
+          w.in_ok-push-in-Alg.ensures.items leaf)
       | in-Seq+in_ok-reach-in-Seq w ↦
-          rw w.reached-is
-          (pieces_more pieces members c.loop-member.member-index (Alg 0) c.args.reached.now.items now w.reach.new.reached.items (Seq c.args.number) c.loop-member-test.true c.loop-member.invariant
-          (w.in_ok-reach-in-Seq.ensures ∙ ap (λ m. now ++ pieces m) (sym w.in-Seq.is)))
+          rw w.members-is
+          (more w.reach.new.members.items _ (Seq c.args.number) c.loop-member-test.true c.loop-member.invariant
+          w.in_ok-reach-in-Seq.ensures (ap pieces (sym w.in-Seq.is)))
     ]
 
 pub returns : goal.returns
 returns t c =
     let q = c.in-Some.sequence.now in
-    let decide = decision_within c.args.limit c.args.sequences.now c.args.outcomes.now in
+    let decide = decision c.args.job.now c.args.outcomes.now in
+    let sequences = c.args.job.now.sequences in
     let some : 0 < c.args.depth = omega arith in
-    let there : slice_get c.args.sequences.now c.args.number ≡ Some q = ap (slice_get c.args.sequences.now) (sym c.from.ensures) ∙ c.in-Some.ensures in
-    let decisions = c.as_slice.ensures.value ∙ c.in_ok-decisions.ensures ∙ ap (map decide) c.members.ensures in
-    let members = c.entered_members-member-items.ensures ∙ ap (entered q) decisions in
-    let whole = take_all c.loop-member.member-index c.entered_members-member-items.result.now c.loop-member-test.false ∙ members in
-    rw (reached_within-sequence c.args.depth c.args.sequences.now decide c.args.number q some there)
-    (c.loop-member.invariant ∙ ap (λ ms. c.args.reached.now.items ++ (Seq c.args.number ∷ flat_map (reached_within (c.args.depth - 1) c.args.sequences.now decide) ms)) whole)
+    let found = got sequences c.sequences.result.now c.args.number c.from.result c.sequences.ensures c.from.ensures in
+    let pieces = reached_within (c.args.depth - 1) sequences decide in
+    let members = c.in_ok-member-items.member-items.now in
+    rw (reached_within-sequence c.args.depth sequences decide c.args.number q some (found ∙ c.in-Some.ensures))
+    (pieces_all pieces members _ c.loop-member.member-index c.args.members.now.items c.loop-member.members.items
+    (Seq c.args.number) c.loop-member-test.false c.loop-member.invariant c.in_ok-member-items.ensures)

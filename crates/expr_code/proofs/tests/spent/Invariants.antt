@@ -1,4 +1,0 @@
-use Rattle.expr_code.proofs.tests.spent.Given as goal
-
-abbrev pub ghosts-spend : goal.ghosts-spend
-ghosts-spend a = record { name = a.blank.name; parts = a.blank.parts }

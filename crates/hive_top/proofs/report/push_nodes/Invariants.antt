@@ -1,9 +1,0 @@
-use Rattle.std.proofs.Common.{◌≡◌, ◌++◌, drop}
-use Rattle.std.specs.List.{flat_map, zip}
-use Rattle.hive_model.specs.Report.{node_line}
-use Rattle.hive_top.proofs.report.push_nodes.Given as goal
-
-abbrev pub invariant-loop-index : goal.invariant-loop-index
-invariant-loop-index l =
-    l.out.items ++ flat_map node_line (zip (drop l.index l.sequences) (drop l.index l.decisions))
-    ≡ l.fn.out.items ++ flat_map node_line (zip l.sequences l.decisions)

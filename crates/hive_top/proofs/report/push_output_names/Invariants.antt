@@ -1,9 +1,0 @@
-use Rattle.std.proofs.Common.{◌≡◌, ◌++◌, List, ℕ, Bor, drop, map}
-use Rattle.hive_model.specs.declared.algorithm.Output.{Output}
-use Rattle.hive_model.specs.Valid.{output_names}
-use Rattle.hive_top.proofs.report.push_output_names.Given as goal
-
-abbrev pub invariant-loop-output : goal.invariant-loop-output
-invariant-loop-output l =
-    map (λ (name : Bor (List ℕ)). name.now) l.names.items ++ map (λ (o : Output). o.name) (drop l.output-index l.output-items)
-    ≡ map (λ (name : Bor (List ℕ)). name.now) l.fn.names.items ++ output_names l.algorithm

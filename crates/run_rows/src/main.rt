@@ -1,0 +1,47 @@
+//! Rows of whole runs over files and streams in memory: each line of the input is the words of a call, its options
+//! file, its records, and the calls of the outside that fail; what is printed is the status and what the sink got.
+//! `stdout` holds what docs/FORMATS.md says.
+//!
+//! A row has eight parts with `|` between: the words; the file of data/ that the shelf has as `job`; the records, with
+//! `\n` for a line feed; how many bytes the source gives in one call; how many the sink takes in one call; and the
+//! numbers of the calls of shelf, source and sink that fail.
+#![tactic(auto)]
+
+ghost use Rattle.std.specs.Prelude.{◌<◌};
+
+mod case;
+mod edge;
+mod run;
+
+use case::{Case, case_of};
+use run::written;
+use std::fs;
+
+fn main(rt: HostRuntime) -> anyhow::Result<()> {
+    let mut count: u64 = 0;
+    for line in rt.lines(rt.alloc()) {
+        let line = line?;
+        print_row(&rt, line.as_str())?;
+        count = count.saturating_add(1);
+    }
+    edge::print_calls(&rt)?;
+    println!(rt; "{count} rows")?;
+    Ok(())
+}
+
+fn print_row(rt: &HostRuntime, line: &str) -> anyhow::Result<()> {
+    match case_of(rt.alloc(), line)? {
+        Some(case) => print_case(rt, &case),
+        None => Ok(println!(rt; "no row: {line}")?),
+    }
+}
+
+fn print_case(rt: &HostRuntime, case: &Case<'_>) -> anyhow::Result<()>
+    requires piece { 0 < case.now.piece }
+    requires takes { 0 < case.now.takes }
+{
+    let options = fs::read(rt, case.file)?;
+    let (status, text) = written(rt.alloc(), case, options)?;
+    println!(rt; "{status} {text:?}")?;
+    Ok(())
+}

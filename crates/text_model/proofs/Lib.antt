@@ -1,0 +1,3 @@
+mod OnLiterals
+mod Digits
+mod AsciiTexts

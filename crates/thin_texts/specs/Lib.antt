@@ -1,0 +1,5 @@
+pub mod Numeral
+pub mod ThinRecords
+pub mod ThinTables
+pub mod ThinJob
+pub mod ThinTree
