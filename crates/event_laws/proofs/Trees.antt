@@ -40,7 +40,7 @@ StandsAt nodes from (Dual f l r) =
     StandsAt nodes from l × StandsAt nodes (from + size l) r
     × (slice_get nodes (from + (size l + size r)) ≡ Some (node.Call f (root from l) (Some (root (from + size l) r))))
 
-tree_within-node : (d : ℕ) (nodes : List Node) (place : ℕ) (n : Node) → slice_get nodes place ≡ Some n →
+pub tree_within-node : (d : ℕ) (nodes : List Node) (place : ℕ) (n : Node) → slice_get nodes place ≡ Some n →
     tree_within (suc d) nodes place ≡ node_tree (tree_within d nodes) n
 unfolding tree_within
 tree_within-node d nodes place n e = ap (option_and_then (node_tree (tree_within d nodes))) e

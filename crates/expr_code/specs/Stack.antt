@@ -1,7 +1,6 @@
 -- The stack on which an expression runs. Its top stands first here: each node takes its operands off and puts its value on.
 -- That this leaves the value of the tree is what `evaluate` ensures, and by it `perform` the execution.
-use Rattle.std.specs.Prelude.{◌≡◌, ℕ, ◌+◌, ◌≤◌, if◌then◌else◌, List, [], ◌∷◌, length, map, reverse, Some, None, slice_get, IfOk, IsOk, MatchOption, MatchResult, Result, Ok, Err}
-use Rattle.std.specs.Borrow.{Bor}
+use Rattle.std.specs.Prelude.{◌≡◌, ℕ, ◌+◌, ◌≤◌, if◌then◌else◌, List, [], ◌∷◌, length, map, reverse, Some, None, slice_get, IfOk, IsOk, MatchOption, Result, Ok, Err}
 use Rattle.std.specs.Option.{option_map_or}
 use Rattle.std.specs.List.{AllByRecursion}
 use Rattle.hive_model.specs.Algorithm.{Algorithm}
@@ -33,10 +32,6 @@ operand_in products (operand.Held n) = option_map_or Ok (slice_get products n) u
 abbrev pub worth_in : List Product → Result Operand Fault → Worth
 worth_in products (Ok it) = operand_in products it
 worth_in products (Err f) = Err f
-
--- the product or the fault that the worth is
-abbrev pub Borrows : Result (Bor Product) Fault → Worth → Type 0
-Borrows borrowed worth = MatchResult borrowed (λ p. worth ≡ Ok p.now) (λ f. worth ≡ Err f)
 
 -- no operand is at fault
 abbrev pub IsSound : List Product → Result Operand Fault → Type 0

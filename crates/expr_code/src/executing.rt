@@ -7,9 +7,8 @@ ghost use Rattle.expr_code.specs.Frame.{products};
 ghost use Rattle.expr_code.specs.Stack.{HasRoomFor, room, verdict, worth_in};
 
 use crate::evaluation::evaluate;
-use crate::execution::Execution;
 use crate::frame::{Frame, product_of, share};
-use hive_model::{Algorithm, Fault, Many, Operand, Outcome, Place, Product};
+use hive_model::{Algorithm, Execution, Fault, Many, Operand, Outcome, Place, Product};
 use std::alloc::{AllocError, Global};
 use std::sync::Arc;
 

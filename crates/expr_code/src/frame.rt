@@ -3,7 +3,8 @@ ghost use Rattle.std.specs.Prelude.{◌≡◌, Ok, IfOk, IsOk, map, nat_eq, nat_
 ghost use Rattle.std.specs.Arc.{arc_value};
 ghost use Rattle.std.specs.List.{enumerate_from};
 ghost use Rattle.expr_code.specs.Frame.{IsIndexOf, product_named, products, seen_by};
-ghost use Rattle.expr_code.specs.Stack.{Borrows, operand_in};
+ghost use Rattle.expr_code.specs.Stack.{operand_in};
+ghost use Rattle.hive_model.specs.Number.{Borrows};
 
 use hive_model::{Algorithm, Fault, Operand, Product};
 use std::alloc::{AllocError, Global};

@@ -13,7 +13,6 @@ mod claimed;
 mod done;
 mod evaluation;
 mod executing;
-mod execution;
 mod frame;
 pub mod laws;
 mod node;

@@ -5,9 +5,8 @@ ghost use Rattle.hive_model.specs.Runnable.{CanPerform};
 ghost use Rattle.hive_model.specs.Scratch.{IsMadeFor};
 
 use crate::executing::execute;
-use crate::execution::Execution;
 use crate::{Claimed, Done, Steps};
-use hive_model::{Algorithm, Lent, Scratch};
+use hive_model::{Algorithm, Execution, Lent, Scratch};
 use std::alloc::{AllocError, Global};
 use std::sync::ledger::Ledger;
 

@@ -6,7 +6,7 @@ use Rattle.std.proofs.Math.Seq.{take-append_seam}
 use Rattle.std.proofs.lemmas.List.{append_assoc, append-nil, drop_at, length-append}
 use Rattle.text_model.specs.ExprText.{function_of, handle_of, number_and_kind, of_some_kind, piece, tree_over, tree_written, trees_written}
 use Rattle.text_model.specs.Steps.{◌>>=◌, or_refuse}
-use Rattle.hive_model.specs.Tree.{Tree, Literal, Held, Minus, Operation, Unary, Dual, root, nodes_from, nodes_of, size as tree_size}
+use Rattle.hive_model.specs.Tree.{Tree, Held, Minus, Operation, Unary, Dual, root, nodes_from, nodes_of, size as tree_size}
 use Rattle.hive_model.specs.Kinds.{if_num, one_kind, two_kind}
 use Rattle.text_model.specs.Written.{Written, Operands, Over, Bare, And}
 use Rattle.hive_model.specs.declared.expr.Function.{Function}
@@ -18,6 +18,7 @@ use Rattle.hive_model.specs.declared.product.Kind.{Kind}
 use Rattle.hive_model.specs.declared.product.Kind.TheVariants as kinds
 use Rattle.text_model.specs.declared.token.Form.{Form}
 use Rattle.text_model.specs.declared.token.Form.TheVariants as forms
+use Rattle.event_laws.proofs.Trees.{length-nodes_from}
 use Rattle.expr_text.specs.Assembly.{call_over, node_over, of_kind, run}
 use Rattle.expr_text.specs.Parts.{count, part, postfix, postfix_all}
 use Rattle.expr_text.specs.declared.assembly.Slot.{Slot}
@@ -53,14 +54,6 @@ slot from x = record { kind = x.1; place = root from x.0 }
 abbrev pub slots_all : ℕ → List (Tree × Kind) → List Slot
 slots_all from [] = []
 slots_all from (x ∷ xs) = slot from x ∷ slots_all (from + tree_size x.0) xs
-
-pub length-nodes_from : (from : ℕ) (t : Tree) → length (nodes_from from t) ≡ tree_size t
-length-nodes_from from (Literal n) = refl
-length-nodes_from from (Held h) = refl
-length-nodes_from from (Minus t) = omega (arith, length-append {A = Node}, length-nodes_from from t)
-length-nodes_from from (Operation op l r) = omega (arith, length-append {A = Node}, length-nodes_from from l, length-nodes_from (from + tree_size l) r)
-length-nodes_from from (Unary f t) = omega (arith, length-append {A = Node}, length-nodes_from from t)
-length-nodes_from from (Dual f l r) = omega (arith, length-append {A = Node}, length-nodes_from from l, length-nodes_from (from + tree_size l) r)
 
 pub length-nodes_all : (from : ℕ) (xs : List (Tree × Kind)) → length (nodes_all from xs) ≡ sizes xs
 length-nodes_all from [] = refl

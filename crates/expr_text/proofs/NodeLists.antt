@@ -1,14 +1,14 @@
--- The tree under a node of a list: what it is by the node, and that the nodes of a tree give the tree back.
-use Rattle.std.proofs.Common.{◌≡◌, ℕ, zero, suc, ◌+◌, ◌-◌, ◌<◌, ◌≤◌, List, [], ◌∷◌, ◌++◌, length, slice_get, Option, Some, None, refl, sym, ap, ◌∙◌, arith}
+-- The tree under a node of a list: what it is by the node.
+use Rattle.std.proofs.Common.{◌≡◌, ℕ, zero, suc, ◌-◌, ◌<◌, List, [], ◌∷◌, ◌++◌, length, slice_get, Option, Some, None, refl, sym, ap, ◌∙◌, arith}
 use Rattle.std.specs.Option.{option_map, option_and_then}
-use Rattle.std.proofs.lemmas.List.{append_assoc, append-nil, length-append}
-use Rattle.hive_model.specs.Tree.{Tree, Literal, Held, Minus, Operation, Unary, Dual, size, root, nodes_from, nodes_of, node_tree, tree_within}
+use Rattle.std.proofs.lemmas.List.{append_assoc}
+use Rattle.hive_model.specs.Tree.{Tree, Literal, Held, Minus, Operation, Unary, Dual, nodes_of, node_tree, tree_of, tree_within}
 use Rattle.hive_model.specs.declared.expr.Binary.{Binary}
 use Rattle.hive_model.specs.declared.expr.Function.{Function}
 use Rattle.hive_model.specs.declared.expr.Node.{Node}
 use Rattle.hive_model.specs.declared.expr.Node.TheVariants as node
 use Rattle.expr_text.specs.Printed.{is_compound, is_compound_node}
-use Rattle.expr_text.proofs.Assembling.{length-nodes_from}
+use Rattle.event_laws.proofs.Trees.{length-nodes_from, size-positive, tree_of-nodes_of}
 
 pub and_then_some : {A B : Type 0} (f : A → Option B) (o : Option A) (y : B) → option_and_then f o ≡ Some y → (x : A) × (o ≡ Some x) × (f x ≡ Some y)
 and_then_some f (Some x) y h = (x, refl, h)
@@ -52,73 +52,14 @@ node_tree-dual lower f a b t h =
     let right = map_some (Dual f left.0) (lower b) t left.2 in
     (left.0, right.0, left.1, right.1, right.2)
 
--- nodes of a tree
-
-slice_get-behind : (front back : List Node) (x : Node) (n : ℕ) → n ≡ length front → slice_get (front ++ (x ∷ back)) n ≡ Some x
-slice_get-behind [] back x n e = rw e refl
-slice_get-behind (y ∷ front) back x zero e = absurd (omega arith)
-slice_get-behind (y ∷ front) back x (suc n) e = slice_get-behind front back x n (omega arith)
-
-one_node : (d n : ℕ) (front back nodes : List Node) (x : Node) → nodes ≡ front ++ (x ∷ back) → n ≡ length front → tree_within (suc d) nodes n ≡ node_tree (tree_within d nodes) x
-unfolding tree_within
-one_node d n front back nodes x e k = ap (option_and_then (node_tree (tree_within d nodes))) (ap (λ ns. slice_get ns n) e ∙ slice_get-behind front back x n k)
-
-size-some : (t : Tree) → 0 < size t
-size-some (Literal n) = omega arith
-size-some (Held h) = omega arith
-size-some (Minus t) = omega arith
-size-some (Operation op l r) = omega arith
-size-some (Unary f t) = omega arith
-size-some (Dual f l r) = omega arith
-
-pub tree_within-nodes : (t : Tree) (depth : ℕ) (front back nodes : List Node) (from : ℕ) → from ≡ length front → size t ≤ depth → nodes ≡ front ++ (nodes_from from t ++ back) → tree_within depth nodes (root from t) ≡ Some t
-tree_within-nodes t zero front back nodes from f h e = absurd (omega (arith, size-some t))
-tree_within-nodes (Literal n) (suc d) front back nodes from f h e = one_node d _ front back nodes (node.Number n) e (omega arith)
-tree_within-nodes (Held n) (suc d) front back nodes from f h e = one_node d _ front back nodes (node.Handle n) e (omega arith)
-tree_within-nodes (Minus t) (suc d) front back nodes from f h e =
-    let len = length-append front (nodes_from from t) in
-    let ln = length-nodes_from from t in
-    let x = node.Negate (root from t) in
-    one_node d _ (front ++ nodes_from from t) back nodes x (e ∙ simp append_assoc) (omega arith)
-    ∙ ap (option_map Minus) (tree_within-nodes t d front (x ∷ back) nodes from f (omega arith) (e ∙ simp append_assoc))
-tree_within-nodes (Unary f t) (suc d) front back nodes from k h e =
-    let len = length-append front (nodes_from from t) in
-    let ln = length-nodes_from from t in
-    let x = node.Call f (root from t) None in
-    one_node d _ (front ++ nodes_from from t) back nodes x (e ∙ simp append_assoc) (omega arith)
-    ∙ ap (option_map (Unary f)) (tree_within-nodes t d front (x ∷ back) nodes from k (omega arith) (e ∙ simp append_assoc))
-tree_within-nodes (Operation op l r) (suc d) front back nodes from f h e =
-    let len = length-append front (nodes_from from l) in
-    let ln = length-nodes_from from l in
-    let rn = length-nodes_from (from + size l) r in
-    let all = length-append (front ++ nodes_from from l) (nodes_from (from + size l) r) in
-    let x = node.Binary op (root from l) (root (from + size l) r) in
-    let left = tree_within-nodes l d front (nodes_from (from + size l) r ++ (x ∷ back)) nodes from f (omega arith) (e ∙ simp append_assoc) in
-    let right = tree_within-nodes r d (front ++ nodes_from from l) (x ∷ back) nodes (from + size l) (omega arith) (omega arith) (e ∙ simp append_assoc) in
-    one_node d _ ((front ++ nodes_from from l) ++ nodes_from (from + size l) r) back nodes x (e ∙ simp append_assoc) (omega arith)
-    ∙ rw (left, right) refl
-tree_within-nodes (Dual op l r) (suc d) front back nodes from f h e =
-    let len = length-append front (nodes_from from l) in
-    let ln = length-nodes_from from l in
-    let rn = length-nodes_from (from + size l) r in
-    let all = length-append (front ++ nodes_from from l) (nodes_from (from + size l) r) in
-    let x = node.Call op (root from l) (Some (root (from + size l) r)) in
-    let left = tree_within-nodes l d front (nodes_from (from + size l) r ++ (x ∷ back)) nodes from f (omega arith) (e ∙ simp append_assoc) in
-    let right = tree_within-nodes r d (front ++ nodes_from from l) (x ∷ back) nodes (from + size l) (omega arith) (omega arith) (e ∙ simp append_assoc) in
-    one_node d _ ((front ++ nodes_from from l) ++ nodes_from (from + size l) r) back nodes x (e ∙ simp append_assoc) (omega arith)
-    ∙ rw (left, right) refl
-
 -- the nodes of a tree give the tree back
 pub tree_within-nodes_of : (t : Tree) (nodes : List Node) → nodes ≡ nodes_of t → tree_within (length nodes) nodes (length nodes - 1) ≡ Some t
-unfolding nodes_of
-tree_within-nodes_of t nodes e =
-    let len : length nodes ≡ size t = ap length e ∙ length-nodes_from 0 t in
-    let place : length nodes - 1 ≡ root 0 t = omega arith in
-    rw place (tree_within-nodes t (length nodes) [] [] nodes 0 refl (omega arith) (e ∙ sym (append-nil (nodes_from 0 t))))
+unfolding tree_of
+tree_within-nodes_of t nodes e = ap tree_of e ∙ tree_of-nodes_of t
 
 pub nodes_of-some : (t : Tree) (nodes : List Node) → nodes ≡ nodes_of t → 0 < length nodes
 unfolding nodes_of
-nodes_of-some t nodes e = omega (arith, ap length e, length-nodes_from 0 t, size-some t)
+nodes_of-some t nodes e = omega (arith, ap length e, length-nodes_from 0 t, size-positive t)
 
 -- what was appended twice
 pub joined : (old mid new a b : List ℕ) → mid ≡ old ++ a → new ≡ mid ++ b → new ≡ old ++ (a ++ b)

@@ -1,4 +1,4 @@
--- What a call that reads a text answers: what the definition says, value or refusal. Want of memory alone is free.
+-- What a call that reads a text answers: what the definition says, value or refusal. Memory may run out at any time.
 use Rattle.std.specs.Prelude.{◌≡◌, ◌≢◌, List, Result, Ok, Err}
 use Rattle.hive_model.specs.Tree.{Tree, nodes_of}
 use Rattle.hive_model.specs.declared.expr.Node.{Node}

@@ -19,7 +19,7 @@ pub struct Slot {
 }
 
 /// The nodes of at most 256 parts, and the operands that are left. The only error besides those of the parts
-/// is want of memory.
+/// is running out of memory.
 #[tactic(auto, unfolding(crate::specs::Assembly::run))]
 pub fn assemble(
     alloc: Global,

@@ -20,7 +20,7 @@ pub struct Part {
 }
 
 /// The parts that the tokens of a text of `stop` bytes write, with at most `depth` brackets and signs open at
-/// once. The only error besides those of the grammar is want of memory.
+/// once. The only error besides those of the grammar is running out of memory.
 pub fn parts(
     alloc: Global,
     stop: u32,
@@ -260,7 +260,7 @@ fn factor<'a>(
     }
 }
 
-// Adds a part with no operands. The only error is want of memory.
+// Adds a part with no operands. The only error is running out of memory.
 fn leaf(at: u32, form: Form, parts: &mut Vec<Part>) -> Result<(), ExprRefusal>
     ensures { MatchResult result (λ _. parts.new.items ≡ parts.old.items ++ postfix (Over at form Bare)) (λ e. e ≡ ExprRefusal.NoMemory) }
 {

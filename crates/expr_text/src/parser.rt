@@ -23,7 +23,7 @@ use text_model::{ExprRefusal, MOST_EXPRESSION_BYTES, MOST_NESTING, Named};
 /// The expression of `text` over the handles of `names`, whose kind is `wanted`.
 ///
 /// Where two handles have one name, the first counts. A refusal is the first one of docs/FORMATS.md,
-/// "Refusals of an expression", but for want of memory, which may come at any time.
+/// "Refusals of an expression", but for running out of memory, which may come at any time.
 pub fn parse(alloc: Global, text: &str, names: &[Named], wanted: Kind) -> Result<Expr, ExprRefusal>
     ensures meaning { GivesNodes result (expr_of text.now names.now wanted) }
     ensures valid { (see : ℕ → Option Kind) → Knows see names.now → IfOk result (IsExpression see wanted) }

@@ -11,7 +11,7 @@ use std::fmt::Write;
 use text_model::Named;
 
 /// The text of an expression over the handles of `names` (docs/FORMATS.md, "Expressions"). The only error is
-/// want of memory.
+/// running out of memory.
 ///
 /// `parse` of the text gives the expression back, where the text is at most [`crate::LONGEST`] bytes and at
 /// most [`crate::DEEPEST`] brackets and signs are open at once.

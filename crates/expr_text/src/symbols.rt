@@ -11,7 +11,7 @@ use std::alloc::Global;
 use text_model::{ExprRefusal, Symbol, Token};
 
 /// The tokens of a text of at most 1,024 bytes, from the left. The only error besides those of the text
-/// is want of memory.
+/// is running out of memory.
 pub fn tokens(alloc: Global, text: &[u8]) -> Result<Vec<Token>, ExprRefusal>
     requires { length text.now ≤ 1024 }
     ensures { MatchResult result (λ tokens. tokens_of text.now ≡ Ok tokens.items) (Refused (tokens_of text.now)) }

@@ -16,7 +16,7 @@ Files = List (List ℕ × List ℕ)
 abbrev pub text_of : List ℕ → Files → Option (List ℕ)
 text_of name files = option_map (λ (file : List ℕ × List ℕ). file.1) (find (λ (file : List ℕ × List ℕ). same_text file.0 name) files)
 
--- `Ok` gave the text under the name; `Over` says that it is longer than the limit. Want of memory comes only for a text
+-- `Ok` gave the text under the name; `Over` says that it is longer than the limit. Memory runs out only for a text
 -- that is within it, so a name that isn't there is `Failed`
 abbrev pub Fetches : Option Files → List ℕ → ℕ → Result (Unit {0}) ShelfFault → List ℕ → Type 0
 Fetches None name limit result out = Unit {0}

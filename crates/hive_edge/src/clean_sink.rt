@@ -29,7 +29,7 @@ impl Model for CleanSink {
 
 impl CleanSink {
     /// An empty sink with room for `room` bytes, which takes at most `piece` of them in one call. The only
-    /// error is want of memory; writes take none.
+    /// error is running out of memory; writes take none.
     pub fn new(alloc: Global, piece: usize, room: usize) -> Result<CleanSink, AllocError>
         requires { 0 < piece }
         ensures got { IfOk result (λ it. it.got ≡ []) }

@@ -34,7 +34,7 @@ impl Model for MemSink {
 
 impl MemSink {
     /// An empty sink with room for `room` bytes, which takes at most `piece` of them in one call, and of
-    /// which the calls with these numbers fail. The only error is want of memory; writes take none.
+    /// which the calls with these numbers fail. The only error is running out of memory; writes take none.
     pub fn new(
         alloc: Global,
         piece: usize,

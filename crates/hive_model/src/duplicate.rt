@@ -6,7 +6,7 @@ use std::alloc::{AllocError, Global};
 
 /// A value that can be copied, where memory allows.
 pub trait Duplicate {
-    /// An equal value of its own. The only error is want of memory.
+    /// An equal value of its own. The only error is running out of memory.
     fn copy(&self, alloc: Global) -> Result<Self, AllocError>
         ensures { IfOk result (λ it. it ≡ self.now) };
 }

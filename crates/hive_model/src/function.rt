@@ -248,7 +248,7 @@ impl Function {
 
     /// The value of this function of a list and a second operand, or its fault (docs/FORMATS.md,
     /// "Expressions"). Operands of other kinds, which no valid expression has, are the fault Empty. The
-    /// only error is want of memory.
+    /// only error is running out of memory.
     #[tactic(auto, unfolding(crate::specs::Call::call_two, crate::specs::Call::unfit))]
     pub fn apply_both(
         self,

@@ -25,7 +25,7 @@ impl Model for Ints {
 }
 
 impl Ints {
-    /// Copies `numbers`. The only error is want of memory.
+    /// Copies `numbers`. The only error is running out of memory.
     pub fn from_slice(alloc: Global, numbers: &[i64]) -> Result<Ints, AllocError>
         requires { length numbers.now ≤ MOST_NUMBERS }
         ensures { IfOk result (λ it. it ≡ numbers.now) }

@@ -18,7 +18,7 @@ pub struct Lent {
 
 impl Lent {
     /// Shares what the store holds for the algorithm's inputs, in written order, into the scratch. The only
-    /// error is want of memory: the scratch then holds no inputs.
+    /// error is running out of memory: the scratch then holds no inputs.
     pub fn load(&mut self, job: &Job, store: &Store) -> Result<(), AllocError>
         requires { self.old.algorithm < length job.now.algorithms }
         ensures ok { OnOk result (IsSomeAnd (slice_get job.now.algorithms self.old.algorithm)

@@ -36,7 +36,7 @@ impl<T> Many<T> {
         Many(Vec::new(alloc))
     }
 
-    /// The empty list with room for `count` elements. The only error is want of memory.
+    /// The empty list with room for `count` elements. The only error is running out of memory.
     pub fn with_room(alloc: Global, count: usize) -> Result<Many<T>, AllocError>
         ensures items { IfOk result (λ it. it.items ≡ []) }
         ensures spare { IfOk result (λ it. count ≤ it.spare) }
@@ -44,7 +44,7 @@ impl<T> Many<T> {
         Ok(Many(Vec::with_capacity(alloc, count)?))
     }
 
-    /// Makes room for `count` more elements. The only error is want of memory, which changes nothing.
+    /// Makes room for `count` more elements. The only error is running out of memory, which changes nothing.
     pub fn reserve(&mut self, count: usize) -> Result<(), AllocError>
         ensures items { self.new.items ≡ self.old.items }
         ensures ok { OnOk result (count ≤ self.new.spare) }
@@ -128,7 +128,7 @@ impl<T: Drop> Many<T> {
 }
 
 impl<T: Duplicate + Drop> Many<T> {
-    /// An equal list of its own. The only error is want of memory.
+    /// An equal list of its own. The only error is running out of memory.
     pub fn copy(&self, alloc: Global) -> Result<Many<T>, AllocError>
         ensures { IfOk result (λ it. it.items ≡ self.now.items) }
     {

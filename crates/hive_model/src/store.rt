@@ -27,7 +27,7 @@ impl Model for Store {
 }
 
 impl Store {
-    /// An empty store with `handles` places. The only error is want of memory.
+    /// An empty store with `handles` places. The only error is running out of memory.
     pub fn with_room(alloc: Global, handles: u16) -> Result<Store, AllocError>
         ensures { IfOk result (λ it. it ≡ replicate handles None) }
     {
@@ -84,7 +84,7 @@ impl Store {
     }
 
     /// One more owner of the product in a place, or `None` where it is empty or there is none. The only
-    /// error is want of memory.
+    /// error is running out of memory.
     pub fn share(&self, handle: u16) -> Result<Option<Arc<Product>>, AllocError>
         ensures { IfOk result (λ it. option_map arc_value it ≡ option_flatten (slice_get self.now handle)) }
     {

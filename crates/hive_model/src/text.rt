@@ -18,7 +18,7 @@ impl Model for Text {
 }
 
 impl Text {
-    /// Copies `text`. The only error is want of memory.
+    /// Copies `text`. The only error is running out of memory.
     pub fn from_str(alloc: Global, text: &str) -> Result<Text, AllocError>
         ensures { IfOk result (λ it. it ≡ text.now) }
     {

@@ -14,7 +14,8 @@ use report_text::{Counts, names_of, push_report};
 use serial_meaning::closure;
 use std::alloc::{AllocError, Global};
 
-/// Appends the whole text of a run over these events, and counts them. The only error is want of memory.
+/// Appends the whole text of a run over these events, and counts them. The only error is running out
+/// of memory.
 #[tactic(auto, unfolding(text_model::specs::Whole::whole))]
 pub fn run(
     alloc: Global,

@@ -1,4 +1,4 @@
-//! Calls of the base types that answer want of memory, once each where memory suffices.
+//! Calls of the base types that answer that memory ran out, once each where memory suffices.
 use hive_model::{Duplicate, EventRecord, Ints, Many, Product, Store, Text};
 use std::alloc::{AllocError, Global};
 use std::sync::Arc;

@@ -46,7 +46,7 @@ impl Counts {
         }
     }
 
-    /// Appends the last line of a run. The only error is want of memory.
+    /// Appends the last line of a run. The only error is running out of memory.
     pub fn push_line(&self, out: &mut Vec<u8>) -> Result<(), AllocError>
         ensures { OnOk result (out.new.items ≡ out.old.items ++ done_line self.now.events self.now.ok self.now.failed self.now.stalled) }
     {

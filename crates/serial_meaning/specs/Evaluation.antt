@@ -1,8 +1,7 @@
 -- What the evaluation of an expression keeps: the products that handles hold, and what a node has come to; and the nodes by the
 -- number of their operands.
-use Rattle.std.specs.Prelude.{◌≡◌, ℕ, List, MatchResult, Result, Some, None, Ok, Err}
+use Rattle.std.specs.Prelude.{◌≡◌, ℕ, List, Result, Some, None, Ok, Err}
 use Rattle.std.specs.Arc.{arc_value}
-use Rattle.std.specs.Borrow.{Bor}
 use Rattle.std.specs.Option.{option_map_or}
 use Rattle.hive_model.specs.Call.{unfit, call_one, call_two}
 use Rattle.hive_model.specs.Number.{Worth}
@@ -30,10 +29,6 @@ bound it = (it.handle, arc_value it.product)
 abbrev pub said : Found → Worth
 said (found.Held p) = Ok p.now
 said (found.Made w) = w
-
--- the product or the fault that the worth is
-abbrev pub Borrows : Result (Bor Product) Fault → Worth → Type 0
-Borrows borrowed worth = MatchResult borrowed (λ p. worth ≡ Ok p.now) (λ f. worth ≡ Err f)
 
 -- what a node makes of one operand
 abbrev pub made_of_one : One → Product → Worth

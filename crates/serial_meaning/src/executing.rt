@@ -6,9 +6,8 @@ ghost use Rattle.hive_model.specs.Execution.{execution, filtered, passed, seen};
 ghost use Rattle.hive_model.specs.Runnable.{CanExecute};
 ghost use Rattle.serial_meaning.specs.Evaluation.{bound};
 
-use crate::execution::Execution;
 use crate::value::{Held, evaluate};
-use hive_model::{Algorithm, Many, Outcome, Place, Product};
+use hive_model::{Algorithm, Execution, Many, Outcome, Place, Product};
 use std::alloc::{AllocError, Global};
 use std::sync::Arc;
 

@@ -9,7 +9,6 @@
 
 mod decision;
 mod executing;
-mod execution;
 mod form;
 pub mod laws;
 mod live;

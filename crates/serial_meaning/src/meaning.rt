@@ -6,12 +6,13 @@ ghost use Rattle.hive_model.specs.Reached.{reached};
 ghost use Rattle.hive_model.specs.Runnable.{IsRunnable};
 
 use crate::decision::decisions_of;
-use crate::execution::Execution;
 use crate::live::is_live;
 use crate::reached::{is_reached, reached};
 use crate::round::run_rounds;
 use crate::store::{outcome_at, outcomes_of, store_of};
-use hive_model::{End, EventRecord, EventResult, EventStatus, Job, Many, Member, Outcome};
+use hive_model::{
+    End, EventRecord, EventResult, EventStatus, Execution, Job, Many, Member, Outcome,
+};
 use std::alloc::{AllocError, Global};
 
 // How an algorithm ends that hasn't run.

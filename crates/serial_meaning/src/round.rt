@@ -8,10 +8,9 @@ ghost use Rattle.hive_model.specs.Runnable.{CanExecute, IsRunnable};
 ghost use Rattle.serial_meaning.specs.Round.{run_by};
 
 use crate::executing::execute;
-use crate::execution::Execution;
 use crate::reached::{is_reached, reached};
 use crate::store::{all_there, inputs_in, outcome_of, outcomes_of, store_of};
-use hive_model::{Algorithm, EventRecord, Job, Member, Outcome, Store};
+use hive_model::{Algorithm, EventRecord, Execution, Job, Member, Outcome, Store};
 use std::alloc::{AllocError, Global};
 
 // Whether the algorithm is reached, has not run, and finds its inputs in the store.

@@ -5,8 +5,7 @@ ghost use Rattle.hive_model.specs.Enabled.{all_there, inputs_in, product_in};
 ghost use Rattle.hive_model.specs.Results.{fitted, kept, left_by, outcome_at, outcome_of, outcomes, ran_at, store};
 ghost use Rattle.hive_model.specs.Store.{shown};
 
-use crate::execution::Execution;
-use hive_model::{Algorithm, Duplicate, EventRecord, Job, Outcome, Product, Store};
+use hive_model::{Algorithm, Duplicate, EventRecord, Execution, Job, Outcome, Product, Store};
 use std::alloc::{AllocError, Global};
 use std::sync::Arc;
 

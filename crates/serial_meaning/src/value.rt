@@ -3,9 +3,10 @@ ghost use Rattle.std.specs.Prelude.{◌≡◌, ◌<◌, IfOk, IsSome, Ok, Some, 
 ghost use Rattle.std.specs.Map.{lookup};
 ghost use Rattle.std.specs.Option.{option_map_or};
 ghost use Rattle.hive_model.specs.Call.{unfit};
+ghost use Rattle.hive_model.specs.Number.{Borrows};
 ghost use Rattle.hive_model.specs.Tree.{tree_of, tree_within};
 ghost use Rattle.hive_model.specs.Value.{and_then, value_of};
-ghost use Rattle.serial_meaning.specs.Evaluation.{Borrows, bound, made_of_one, made_of_two, said, value_within};
+ghost use Rattle.serial_meaning.specs.Evaluation.{bound, made_of_one, made_of_two, said, value_within};
 
 use crate::form::{Form, One, Two, form_of};
 use hive_model::{Duplicate, Fault, Node, Product};

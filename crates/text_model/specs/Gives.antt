@@ -1,5 +1,5 @@
--- What a call owes that answers what a definition says: its value, or its refusal. Want of memory alone is free, so the clause names
--- the refusal that tells it.
+-- What a call owes that answers what a definition says: its value, or its refusal. Memory may run out at any time, so the clause
+-- names the refusal that tells it, and that one alone is free.
 use Rattle.std.specs.Prelude.{◌≡◌, ◌≢◌, Result, Ok, Err}
 
 abbrev pub Gives : {A E : Type 0} → E → Result A E → Result A E → Type 0

@@ -1,4 +1,4 @@
--- The refusal of a part of the reading, as the refusal of the job. Want of memory is the same everywhere.
+-- The refusal of a part of the reading, as the refusal of the job. Memory that ran out is the same everywhere.
 use Rattle.std.specs.Prelude.{ℕ, List}
 use Rattle.text_model.specs.declared.expr_refusal.ExprRefusal.{ExprRefusal}
 use Rattle.text_model.specs.declared.expr_refusal.ExprRefusal.TheVariants as expr

@@ -1,5 +1,5 @@
--- Stop lines: `stop`, what was being read, the refusal's name, and its fields, with one space before each. Want of memory is told by
--- no line.
+-- Stop lines: `stop`, what was being read, the refusal's name, and its fields, with one space before each. That memory ran out
+-- is told by no line.
 use Rattle.std.specs.Prelude.{codes, decimal, ℕ, List, [], ◌∷◌}
 use Rattle.text_model.specs.Report.{line}
 use Rattle.text_model.specs.declared.cut_refusal.CutRefusal.{CutRefusal}

@@ -9,8 +9,8 @@ use std::alloc::{AllocError, AllocFailed};
 use thiserror::Error;
 
 /// The first thing that is wrong with an options text, phase after phase (docs/FORMATS.md,
-/// "Refusals of options"). Paths are those of [`OptionsRefusal`]. Want of memory in a part is want of
-/// memory here.
+/// "Refusals of options"). Paths are those of [`OptionsRefusal`]. Where memory ran out in a part, it ran
+/// out here.
 #[derive(Debug, PartialEq, Eq, Drop, Error)]
 pub enum JobRefusal {
     /// The shape of the tables, or over 1,024 handles in all: Range with the path `handle`.

@@ -23,7 +23,7 @@ use std::alloc::{AllocError, Global};
 use text_model::MOST_ALGORITHMS_OF_VERSION_1;
 use toml::Table;
 
-/// The job of an options text, or `None` where the text isn't thin. The only error is want of memory.
+/// The job of an options text, or `None` where the text isn't thin. The only error is running out of memory.
 #[tactic(auto, unfolding(crate::specs::ThinTree::thin_job))]
 pub fn read_job(alloc: Global, text: &[u8]) -> Result<Option<Job>, AllocError>
     ensures job { IfOk result (λ o. o ≡ thin_job text.now) }

@@ -34,7 +34,7 @@ impl Names {
         }
     }
 
-    /// Adds a name with the next number, and says whether it is new. The only error is want of memory.
+    /// Adds a name with the next number, and says whether it is new. The only error is running out of memory.
     pub fn add(&mut self, alloc: Global, name: &str) -> Result<bool, AllocError>
         ensures new { IfOk result (λ it. it ≡ not (is_among name.now self.old)) }
         ensures added { IfOk result (λ it. it ≡ true → self.new ≡ self.old ++ name.now ∷ []) }
@@ -98,7 +98,7 @@ impl Scope {
     }
 
     /// Adds a handle behind the others, and says whether there was room for it and its name is new.
-    /// The only error is want of memory.
+    /// The only error is running out of memory.
     pub fn add(&mut self, alloc: Global, name: &str, kind: Kind) -> Result<bool, AllocError>
         ensures { IfOk result (λ it. (if it then Some self.new else None) ≡ with_handle self.old name.now kind) }
     {

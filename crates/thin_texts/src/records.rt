@@ -12,7 +12,8 @@ use std::alloc::{AllocError, Global};
 /// The most bytes of a records text.
 pub const RECORDS_LIMIT: usize = 1_048_576;
 
-/// The records of a text in order, or `None` where the text isn't thin. The only error is want of memory.
+/// The records of a text in order, or `None` where the text isn't thin. The only error is running out
+/// of memory.
 #[tactic(auto, unfolding(crate::specs::ThinRecords::thin_records))]
 pub fn read_records(
     alloc: Global,

@@ -31,7 +31,7 @@ pub struct ThinAlgorithm {
     pub work: Work,
 }
 
-/// The raw handles of the tables. The only error is want of memory.
+/// The raw handles of the tables. The only error is running out of memory.
 #[tactic(auto, unfolding(crate::specs::ThinRecords::each))]
 pub fn read_raws(alloc: Global, items: &[Value]) -> Result<Option<Vec<Raw>>, AllocError>
     ensures { IfOk result (λ o. option_map (λ raws. raws.items) o ≡ each raw_of (map view items.now)) }
@@ -62,7 +62,7 @@ fn read_raw(alloc: Global, item: &Value) -> Result<Option<Raw>, AllocError>
     Ok(Some(Raw { name, kind }))
 }
 
-/// The algorithms of the tables. The only error is want of memory.
+/// The algorithms of the tables. The only error is running out of memory.
 #[tactic(auto, unfolding(crate::specs::ThinRecords::each))]
 pub fn read_algorithms(
     alloc: Global,
@@ -196,7 +196,8 @@ fn behind<'a>(front: &[u8], text: &'a [u8]) -> Option<&'a [u8]>
     if front == head { Some(rest) } else { None }
 }
 
-/// The names of the members of the sequence, whose name is to be `top`. The only error is want of memory.
+/// The names of the members of the sequence, whose name is to be `top`. The only error is running out
+/// of memory.
 #[tactic(auto, unfolding(crate::specs::ThinTables::sequence_of))]
 pub fn read_sequence<'a>(
     alloc: Global,
@@ -312,7 +313,7 @@ fn kind_in(table: &Table) -> Option<Kind>
     }
 }
 
-/// The name at a key. The only error is want of memory.
+/// The name at a key. The only error is running out of memory.
 pub fn read_name(alloc: Global, table: &Table, key: &str) -> Result<Option<Text>, AllocError>
     ensures { IfOk result (λ o. o ≡ name_at key.now (table_view table.now)) }
 {

@@ -26,8 +26,8 @@ impl<V: Kept> Turn<V> {
     ghost use Rattle.turn_lock.specs.Pass.{rights_of, seen, own, held, IsIdle, IsHolding};
     ghost use Rattle.turn_lock.specs.Turn.{IsPassOf, all_rights, opening};
 
-    /// The lock over `value`, and its first pass, which has all rights. The only error is want of memory: the
-    /// value is then handed back.
+    /// The lock over `value`, and its first pass, which has all rights. The only error is running out of
+    /// memory: the value is then handed back.
     pub fn new(
         alloc: Global,
         value: V,

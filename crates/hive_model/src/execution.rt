@@ -4,7 +4,9 @@ ghost use Rattle.std.specs.Arc.{arc_value};
 ghost use Rattle.hive_model.specs.Execution.{failed};
 ghost use Rattle.hive_model.specs.Results.{kept_by};
 
-use hive_model::{Fault, Many, Outcome, Place, Product};
+use crate::many::Many;
+use crate::outcome::{Fault, Outcome, Place};
+use crate::product::Product;
 use std::alloc::Global;
 use std::marker::Model;
 use std::sync::Arc;
@@ -14,10 +16,11 @@ use std::sync::Arc;
 ///
 /// Contracts see the outputs as products.
 #[derive(Drop)]
-pub(crate) struct Execution {
-    pub(crate) outcome: Outcome,
-    /// In written order; none where it failed.
-    pub(crate) outputs: Many<Arc<Product>>,
+pub struct Execution {
+    /// How it ended.
+    pub outcome: Outcome,
+    /// The outputs that it made, in written order; none where it failed.
+    pub outputs: Many<Arc<Product>>,
 }
 
 impl Model for Execution {
@@ -35,7 +38,7 @@ impl Model for Execution {
 
 impl Execution {
     /// One that failed there by that fault. It takes no memory.
-    pub(crate) fn failed(alloc: Global, place: Place, fault: Fault) -> Execution
+    pub fn failed(alloc: Global, place: Place, fault: Fault) -> Execution
         ensures { result ≡ failed place fault }
     {
         Execution {
@@ -45,7 +48,7 @@ impl Execution {
     }
 
     /// The outputs that the event store takes: all, or none where it failed.
-    pub(crate) fn kept(&self) -> &[Arc<Product>]
+    pub fn kept(&self) -> &[Arc<Product>]
         ensures { map arc_value result.now ≡ kept_by self.now.outcome self.now.outputs }
     {
         match self.outcome {
