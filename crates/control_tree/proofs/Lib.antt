@@ -1,0 +1,5 @@
+pub mod Twice
+pub mod LeafCounts
+pub mod Distinct
+pub mod Inside
+pub mod Checks
