@@ -1,0 +1,4 @@
+pub mod Found
+pub mod Repeated
+pub mod Steps
+pub mod Kinds
