@@ -76,6 +76,7 @@ fn spend<L: Ledger>(alloc: Global, claimed: Claimed, blank: Blank) -> Result<Don
     requires name { blank.name ≡ L.name }
     requires parts { blank.parts ≡ L.parts }
     requires some { 0 < L.parts }
+    ensures { IfOk result (λ it. it.claim ≡ claimed) }
 {
     let mut steps = Steps::<L>::new(blank);
     match perform(alloc, claimed, &mut steps) {
@@ -87,7 +88,10 @@ fn spend<L: Ledger>(alloc: Global, claimed: Claimed, blank: Blank) -> Result<Don
     }
 }
 
-fn spent(alloc: Global, claimed: Claimed) -> Result<Done, AllocError> {
+// The claim, performed.
+pub(crate) fn spent(alloc: Global, claimed: Claimed) -> Result<Done, AllocError>
+    ensures { IfOk result (λ it. it.claim ≡ claimed) }
+{
     spend::<Brand>(alloc, claimed, Blank::new(1))
 }
 

@@ -4,6 +4,11 @@
 #[cfg(test)]
 mod claims;
 #[cfg(test)]
+mod results;
+#[cfg(test)]
 mod sharing;
 #[cfg(test)]
 mod turns;
+mod worker;
+
+pub use worker::Worker;
