@@ -62,6 +62,8 @@ fn nodes(
     ensures meaning { (w : Written) → parts.now ≡ postfix w → GivesNodes result (tree_of_kind text.now names.now wanted w) }
     ensures valid { (w : Written) → parts.now ≡ postfix w
         → (see : ℕ → Option Kind) → Knows see names.now → IfOk result (IsExpression see wanted) }
+    // So many parts are refused without more memory.
+    ensures too_many { MOST_NODES < length parts.now → result ≡ Err ExprRefusal.TooMany }
 {
     if parts.len() > MOST_NODES {
         return Err(ExprRefusal::TooMany);

@@ -35,7 +35,7 @@ pub fn tokens(alloc: Global, text: &[u8]) -> Result<Vec<Token>, ExprRefusal>
 }
 
 // The symbol that the bytes begin with, and its length.
-#[tactic(auto, using(crate::proofs::TokenLists::fronts), unfolding(text_model::specs::Tokens::symbol_at, text_model::specs::Tokens::literal))]
+#[tactic(auto, using(crate::proofs::Lexemes::TokenLists::fronts), unfolding(text_model::specs::Tokens::symbol_at, text_model::specs::Tokens::literal))]
 fn symbol_at(at: usize, bytes: &[u8]) -> Result<(Symbol, usize), ExprRefusal>
     requires some { 0 < length bytes.now }
     requires few { at + length bytes.now ≤ 1024 }

@@ -1,15 +1,11 @@
 //! The program: `main` makes the real files and streams, and calls the top.
 #![tactic(auto)]
 
-mod files;
-mod streams;
-
-use files::RealFiles;
+use hive_real::{RealFiles, RealIn, RealOut};
 use hive_top::{Status, hive_plain};
 use std::alloc::AllocError;
 use std::process::ExitCode;
 use std::{env, io};
-use streams::{RealIn, RealOut};
 
 fn main(rt: HostRuntime) -> ExitCode {
     let words = match words_of(&rt) {

@@ -3,9 +3,9 @@
 //!
 //! A row is the record's one cell, then the sequences, with `;` before each; the first sequence is the top. The cell
 //! is a number, or `?` where it is absent; its handle is `n`. A sequence is its flags (`or`, `strict`, `seq`, `invert`,
-//! `ignore`, `cut`) and, after `:`, its members with spaces between: `s` and a number is a sequence, and anything else
-//! makes one more algorithm of parts with commas between: `i=NAME` an input, `o=TEXT` an output, `f=TEXT` the filter.
-//! The outputs are named `p` and their handle's number.
+//! `ignore`, `cut`) and, after `:`, its members with spaces between: `s` and a number is a sequence, `a` and a
+//! number an algorithm that was made before, and anything else makes one more algorithm of parts with commas between:
+//! `i=NAME` an input, `o=TEXT` an output, `f=TEXT` the filter. The outputs are named `p` and their handle's number.
 #![tactic(auto)]
 
 mod algorithm;
@@ -25,24 +25,32 @@ fn main(rt: HostRuntime) -> anyhow::Result<()> {
     let mut count: u64 = 0;
     for line in rt.lines(rt.alloc()) {
         let line = line?;
-        print_row(&rt, line.as_str())?;
-        count = count.saturating_add(1);
+        if print_row(&rt, line.as_str())? {
+            count = count.saturating_add(1);
+        }
     }
     calls::print_calls(&rt)?;
     println!(rt; "{count} rows")?;
     Ok(())
 }
 
-fn print_row(rt: &HostRuntime, line: &str) -> anyhow::Result<()> {
+// Prints what a line comes to, and says whether it is a row.
+fn print_row(rt: &HostRuntime, line: &str) -> anyhow::Result<bool> {
     match draft_of(rt.alloc(), line) {
         Ok(Some((job, record))) => {
             let text = report_of(rt.alloc(), &job, &record)?;
             println!(rt; "{text}")?;
+            Ok(true)
         }
-        Ok(None) => println!(rt; "no row: {line}")?,
-        Err(error) => println!(rt; "no row: {line}: {error}")?,
+        Ok(None) => {
+            println!(rt; "no row: {line}")?;
+            Ok(false)
+        }
+        Err(error) => {
+            println!(rt; "no row: {line}: {error}")?;
+            Ok(false)
+        }
     }
-    Ok(())
 }
 
 // The report of the event, on one line.

@@ -78,9 +78,18 @@ fn member_of(
     requires { AllByRecursion CanExecute algorithms.old.items }
     ensures { OnOk result (AllByRecursion CanExecute algorithms.new.items) }
 {
-    match word.strip_prefix('s') {
-        Some(number) => Ok(Member::Seq(number.parse()?)),
+    match numbered(word) {
+        Some(member) => Ok(member),
         None => Ok(Member::Alg(add_algorithm(alloc, word, names, algorithms)?)),
+    }
+}
+
+// The sequence, or the algorithm made before, whose number the word is.
+fn numbered(word: &str) -> Option<Member> {
+    match word.split_at_checked(1) {
+        Some(("s", number)) => Some(Member::Seq(number.parse().ok()?)),
+        Some(("a", number)) => Some(Member::Alg(number.parse().ok()?)),
+        _ => None,
     }
 }
 

@@ -1,0 +1,2 @@
+-- a line by its words
+pub mod Spaces

@@ -10,11 +10,12 @@ use Rattle.text_model.specs.declared.token.Symbol.{Symbol}
 use Rattle.text_model.specs.declared.token.Token.{Token}
 use Rattle.text_model.specs.declared.token.Symbol.TheVariants.{Close, Comma}
 use Rattle.expr_text.specs.Parts.{below, part, postfix, postfix_all, count}
-use Rattle.expr_text.proofs.Readings.{row-begins, row-refused, grouped-more, grouped-refused, grouped-end, grouped-full, postfix-operation, arguments-begin, arguments-refused, further-more, further-refused, further-end, further-full, factor-begun, below-some, below-none, signed-read, signed-refused, bracketed-read, bracketed-open, bracketed-refused, called-read, called-open, called-refused, named-leaf, named-call}
+use Rattle.expr_text.proofs.Parsing.Readings.{row-begins, row-refused, grouped-more, grouped-refused, grouped-end, grouped-full, postfix-operation, arguments-begin, arguments-refused, further-more, further-refused, further-end, further-full, factor-begun, below-some, below-none, signed-read, signed-refused, bracketed-read, bracketed-open, bracketed-refused, called-read, called-open, called-refused, named-leaf, named-call}
 use Rattle.expr_text.proofs.grammar.+grammar.Goals as goal
 
 -- a bracket or comma begins no factor
-other : (stop : ℕ) (lower : Option (List Token → Reading)) (at : ℕ) (symbol : Symbol) (tokens : List Token) → symbol ≡ Close ⊎ symbol ≡ Comma → begun_by stop lower at symbol tokens ≡ Err (Unexpected at)
+other : (stop : ℕ) (lower : Option (List Token → Reading)) (at : ℕ) (symbol : Symbol) (tokens : List Token) →
+    symbol ≡ Close ⊎ symbol ≡ Comma → begun_by stop lower at symbol tokens ≡ Err (Unexpected at)
 other stop lower at symbol tokens (inl h) = rw h refl
 other stop lower at symbol tokens (inr h) = rw h refl
 
@@ -44,7 +45,8 @@ row-loop-turn-preserved t c =
     let read = c.in_ok-rest-2.ensures in (
       operation c.in-Some.at c.in-Some.operator so_far.0 read.0,
       so_far.1 ∙ grouped-more c.args.level _ _ _ so_far.0 read.0 _ _ _ _ _ (omega arith) c.in-Some.ensures read.1,
-      c.in_ok-push.ensures.items ∙ (ap (λ xs. xs ++ part c.in-Some.at (forms.Operator c.in-Some.operator) 2 ∷ []) (read.2 ∙ ap (λ xs. xs ++ postfix read.0) so_far.2) ∙ postfix-operation c.args.parts.now.items so_far.0 read.0 c.in-Some.at c.in-Some.operator),
+      c.in_ok-push.ensures.items
+          ∙ (ap (λ xs. xs ++ part c.in-Some.at (forms.Operator c.in-Some.operator) 2 ∷ []) (read.2 ∙ ap (λ xs. xs ++ postfix read.0) so_far.2) ∙ postfix-operation c.args.parts.now.items so_far.0 read.0 c.in-Some.at c.in-Some.operator),
     )
 
 pub row-returns-in_default : goal.row-returns-in_default
@@ -70,7 +72,8 @@ arguments-loop-turn-init t c =
     let next = expr (factor c.args.stop c.args.depth) in
     let all : length c.in_ok-rest.rest.now - 0 ≡ length c.in_ok-rest.rest.now = omega arith in (
       And Bare read.0,
-      arguments-begin next c.args.tokens.now c.in_ok-rest.rest.now read.0 read.1 ∙ ap (λ n. further next n (And Bare read.0) c.in_ok-rest.rest.now) (sym all),
+      arguments-begin next c.args.tokens.now c.in_ok-rest.rest.now read.0 read.1
+          ∙ ap (λ n. further next n (And Bare read.0) c.in_ok-rest.rest.now) (sym all),
       read.2,
       omega arith,
       refl,
@@ -88,7 +91,8 @@ arguments-loop-turn-preserved t c =
     let read = c.in_ok-rest-2.ensures in (
       And so_far.0 read.0,
       so_far.1 ∙ further-more _ _ _ so_far.0 read.0 _ _ _ (omega arith) c.in-Some.ensures read.1,
-      read.2 ∙ (ap (λ xs. xs ++ postfix read.0) so_far.2 ∙ append_assoc c.args.parts.now.items (postfix_all so_far.0) (postfix read.0)),
+      read.2
+          ∙ (ap (λ xs. xs ++ postfix read.0) so_far.2 ∙ append_assoc c.args.parts.now.items (postfix_all so_far.0) (postfix read.0)),
       ap (λ n. n + 1) so_far.3,
       omega arith,
     )
@@ -115,7 +119,8 @@ signed-returns t c =
     let read = c.in_ok-rest.ensures in (
       Over c.args.at forms.Sign (And Bare read.0),
       rw (below-some c.args.stop c.args.depth _ c.in_ok-depth.ensures) (signed-read _ _ _ _ read.0 read.1),
-      c.in_ok-push.ensures.items ∙ (ap (λ xs. xs ++ part c.args.at forms.Sign 1 ∷ []) read.2 ∙ append_assoc c.args.parts.now.items (postfix read.0) (part c.args.at forms.Sign 1 ∷ [])),
+      c.in_ok-push.ensures.items
+          ∙ (ap (λ xs. xs ++ part c.args.at forms.Sign 1 ∷ []) read.2 ∙ append_assoc c.args.parts.now.items (postfix read.0) (part c.args.at forms.Sign 1 ∷ [])),
     )
 
 pub bracketed-returns-in_err-rest : goal.bracketed-returns-in_err-rest
@@ -163,7 +168,8 @@ named-returns t c =
       Over c.args.at (forms.Call c.args.length) read.0,
       named-call c.args.stop _ c.args.at c.args.length _ _ c.in-Some.ensures
           ∙ rw (below-some c.args.stop c.args.depth _ c.in_ok-depth.ensures) (called-read _ _ _ _ _ _ _ read.0 read.1 c.in_ok-rest.ensures),
-      c.in_ok-push.ensures.items ∙ (rw (read.2, read.3) (append_assoc c.args.parts.now.items (postfix_all read.0) (part c.args.at (forms.Call c.args.length) (count read.0) ∷ []))),
+      c.in_ok-push.ensures.items
+          ∙ (rw (read.2, read.3) (append_assoc c.args.parts.now.items (postfix_all read.0) (part c.args.at (forms.Call c.args.length) (count read.0) ∷ []))),
     )
 
 pub factor-returns-in_default : goal.factor-returns-in_default
@@ -173,20 +179,28 @@ pub factor-returns-in_ok-leaf-in-Number : goal.factor-returns-in_ok-leaf-in-Numb
 factor-returns-in_ok-leaf-in-Number t c = (
   Over c.in-Some.token.at (forms.Number c.in-Number.number) Bare,
   factor-begun c.args.stop c.args.depth c.args.tokens.now ∙ rw (c.in-Some.ensures, c.in-Number.is) refl,
-  c.in_ok-leaf-in-Number.ensures ∙ ap (λ n. c.args.parts.now.items ++ part c.in-Some.token.at (forms.Number n) 0 ∷ []) (to_z-of_z w64 c.in-Number.number (search rules)),
+  c.in_ok-leaf-in-Number.ensures
+      ∙ ap (λ n. c.args.parts.now.items ++ part c.in-Some.token.at (forms.Number n) 0 ∷ []) (to_z-of_z w64 c.in-Number.number (search rules)),
 )
 
 pub factor-returns-in-Name : goal.factor-returns-in-Name
-factor-returns-in-Name t c = rw (factor-begun c.args.stop c.args.depth c.args.tokens.now, c.in-Some.ensures, c.in-Name.is) c.named.ensures
+factor-returns-in-Name t c =
+    rw (factor-begun c.args.stop c.args.depth c.args.tokens.now, c.in-Some.ensures, c.in-Name.is) c.named.ensures
 
 pub factor-returns-in-Open : goal.factor-returns-in-Open
-factor-returns-in-Open t c = rw (factor-begun c.args.stop c.args.depth c.args.tokens.now, c.in-Some.ensures, c.in-Open.is) c.bracketed.ensures
+factor-returns-in-Open t c =
+    rw (factor-begun c.args.stop c.args.depth c.args.tokens.now, c.in-Some.ensures, c.in-Open.is) c.bracketed.ensures
 
 pub factor-returns-in-Close : goal.factor-returns-in-Close
-factor-returns-in-Close t c = λ h. factor-begun c.args.stop c.args.depth c.args.tokens.now ∙ rw c.in-Some.ensures (other c.args.stop (below c.args.stop c.args.depth) c.in-Some.token.at c.in-Some.token.symbol c.in-Some.rest.now c.in-Close.is)
+factor-returns-in-Close t c =
+    λ h. factor-begun c.args.stop c.args.depth c.args.tokens.now
+    ∙ rw c.in-Some.ensures (other c.args.stop (below c.args.stop c.args.depth) c.in-Some.token.at c.in-Some.token.symbol c.in-Some.rest.now c.in-Close.is)
 
 pub factor-returns-then-is_sign : goal.factor-returns-then-is_sign
-factor-returns-then-is_sign t c = rw (factor-begun c.args.stop c.args.depth c.args.tokens.now, c.in-Some.ensures, c.in-Operator.is, sym c.if-is_sign.ensures) c.signed.ensures
+factor-returns-then-is_sign t c =
+    rw (factor-begun c.args.stop c.args.depth c.args.tokens.now, c.in-Some.ensures, c.in-Operator.is, sym c.if-is_sign.ensures) c.signed.ensures
 
 pub factor-returns-else-is_sign : goal.factor-returns-else-is_sign
-factor-returns-else-is_sign t c = λ h. factor-begun c.args.stop c.args.depth c.args.tokens.now ∙ rw (c.in-Some.ensures, c.in-Operator.is, sym c.if-is_sign.ensures) refl
+factor-returns-else-is_sign t c =
+    λ h. factor-begun c.args.stop c.args.depth c.args.tokens.now
+    ∙ rw (c.in-Some.ensures, c.in-Operator.is, sym c.if-is_sign.ensures) refl

@@ -1,5 +1,5 @@
 use Rattle.std.proofs.lemmas.Result.{err_from_is_err_and}
-use Rattle.expr_text.proofs.Readings.{written-refused, written-end, written-more}
+use Rattle.expr_text.proofs.Parsing.Readings.{written-refused, written-end, written-more}
 use Rattle.expr_text.proofs.grammar.parts.Goals as goal
 
 pub returns-in_err-rest : goal.returns-in_err-rest

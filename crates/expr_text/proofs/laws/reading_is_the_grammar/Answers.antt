@@ -1,5 +1,5 @@
-use Rattle.expr_text.proofs.ReadRules.{read-rules}
-use Rattle.expr_text.proofs.RulesRead.{rules-read}
+use Rattle.expr_text.proofs.Parsing.Sound.{read-rules}
+use Rattle.expr_text.proofs.Parsing.Complete.{rules-read}
 use Rattle.expr_text.proofs.laws.reading_is_the_grammar.Goals as goal
 
 pub returns : goal.returns

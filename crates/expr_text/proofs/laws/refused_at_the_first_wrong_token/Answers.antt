@@ -1,4 +1,4 @@
-use Rattle.expr_text.proofs.Refusals.{refused-unexpected, refused-deep, refused-only}
+use Rattle.expr_text.proofs.Lookahead.Refusals.{refused-unexpected, refused-deep, refused-only}
 use Rattle.expr_text.proofs.laws.refused_at_the_first_wrong_token.Goals as goal
 
 pub returns : goal.returns

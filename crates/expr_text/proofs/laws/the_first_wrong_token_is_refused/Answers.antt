@@ -1,4 +1,4 @@
-use Rattle.expr_text.proofs.FirstWrong.{unexpected-refused, deep-refused, unfinished-refused}
+use Rattle.expr_text.proofs.Lookahead.FirstWrong.{unexpected-refused, deep-refused, unfinished-refused}
 use Rattle.expr_text.proofs.laws.the_first_wrong_token_is_refused.Goals as goal
 
 pub returns : goal.returns

@@ -6,4 +6,5 @@ use Rattle.text_model.specs.ExprText.{function_of}
 use Rattle.expr_text.proofs.names.function_of.Given as goal
 
 abbrev pub invariant-loop-function : goal.invariant-loop-function
-invariant-loop-function l = find (λ f. same_text (function_name f) l.name) (drop l.function-index l.function-items) ≡ function_of l.name
+invariant-loop-function l =
+    find (λ f. same_text (function_name f) l.name) (drop l.function-index l.function-items) ≡ function_of l.name

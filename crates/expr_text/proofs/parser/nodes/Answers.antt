@@ -2,12 +2,13 @@ use Rattle.std.proofs.Common.{length, Err, sym, ap, ◌∙◌, arith}
 use Rattle.std.proofs.lemmas.Result.{err_from_is_err_and}
 use Rattle.hive_model.specs.Same.{same_kind}
 use Rattle.text_model.specs.declared.expr_refusal.ExprRefusal.TheVariants as refusals
-use Rattle.expr_text.proofs.KindsRead.{read-valid}
-use Rattle.expr_text.proofs.Phases.{tree_of_kind-many, tree_of_kind-wanted, tree_of_kind-unwanted, tree_of_kind-refused, length-postfix, postfix-last, tree-refused, tree-read}
+use Rattle.expr_text.proofs.Building.KindsRead.{read-valid}
+use Rattle.expr_text.proofs.Building.Phases.{tree_of_kind-many, tree_of_kind-wanted, tree_of_kind-unwanted, tree_of_kind-refused, length-postfix, postfix-last, tree-refused, tree-read}
 use Rattle.expr_text.proofs.parser.nodes.Goals as goal
 
 pub returns-then-parts-gt-MOST_NODES-clause-meaning : goal.returns-then-parts-gt-MOST_NODES-clause-meaning
-returns-then-parts-gt-MOST_NODES-clause-meaning c = λ w e h. tree_of_kind-many c.args.text.now c.args.names.now c.args.wanted w (omega (arith, length-postfix w, ap length e))
+returns-then-parts-gt-MOST_NODES-clause-meaning c =
+    λ w e h. tree_of_kind-many c.args.text.now c.args.names.now c.args.wanted w (omega (arith, length-postfix w, ap length e))
 
 pub returns-in_err-nodes-clause-meaning : goal.returns-in_err-nodes-clause-meaning
 returns-in_err-nodes-clause-meaning c =

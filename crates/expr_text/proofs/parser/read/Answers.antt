@@ -1,6 +1,6 @@
 use Rattle.std.proofs.Common.{sym, ◌∙◌}
 use Rattle.std.proofs.lemmas.Result.{err_from_is_err_and}
-use Rattle.expr_text.proofs.Phases.{expr_of-token, expr_of-grammar, expr_of-unknown, expr_of-known}
+use Rattle.expr_text.proofs.Building.Phases.{expr_of-token, expr_of-grammar, expr_of-unknown, expr_of-known}
 use Rattle.expr_text.proofs.parser.read.Goals as goal
 
 pub returns-in_err-tokens-clause-meaning : goal.returns-in_err-tokens-clause-meaning

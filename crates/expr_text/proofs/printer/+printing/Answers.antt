@@ -4,7 +4,7 @@ use Rattle.std.specs.String.{string_bytes}
 use Rattle.std.proofs.lemmas.Int.{to_z-of_z}
 use Rattle.hive_model.specs.Tree.{Literal, Held, tree_within}
 use Rattle.expr_text.specs.Printed.{enclosed, printed, operator_text, function_text}
-use Rattle.expr_text.proofs.NodeLists.{tree_within-node, node_tree-negate, node_tree-binary, node_tree-unary, node_tree-dual, is_compound-node, joined, joined_three, joined_call, joined_dual}
+use Rattle.expr_text.proofs.Printing.NodeLists.{tree_within-node, node_tree-negate, node_tree-binary, node_tree-unary, node_tree-dual, is_compound-node, joined, joined_three, joined_call, joined_dual}
 use Rattle.expr_text.proofs.printer.+printing.Goals as goal
 
 pub show-show_operand-requires : goal.show-show_operand-requires

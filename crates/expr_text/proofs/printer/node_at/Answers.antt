@@ -1,5 +1,5 @@
 use Rattle.std.proofs.lemmas.Option.{slice_get_within}
-use Rattle.expr_text.proofs.NodeLists.{tree_within-there}
+use Rattle.expr_text.proofs.Printing.NodeLists.{tree_within-there}
 use Rattle.expr_text.proofs.printer.node_at.Goals as goal
 
 pub at-requires : goal.at-requires

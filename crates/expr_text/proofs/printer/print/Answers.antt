@@ -1,7 +1,7 @@
 use Rattle.std.proofs.Common.{◌++◌, ap, ◌∙◌}
 use Rattle.expr_text.specs.Printed.{printed}
-use Rattle.expr_text.proofs.NodeLists.{tree_within-nodes_of, nodes_of-some}
-use Rattle.expr_text.proofs.ReadBack.{expr_of-printed}
+use Rattle.expr_text.proofs.Printing.NodeLists.{tree_within-nodes_of, nodes_of-some}
+use Rattle.expr_text.proofs.Printing.ReadBack.{expr_of-printed}
 use Rattle.expr_text.proofs.printer.print.Goals as goal
 
 pub overflow_sub-nodes : goal.overflow_sub-nodes

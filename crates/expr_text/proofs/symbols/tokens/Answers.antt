@@ -3,7 +3,7 @@ use Rattle.std.proofs.lemmas.List.{length-drop}
 use Rattle.std.proofs.lemmas.Bool.Decides.{nat_tests}
 use Rattle.std.proofs.lemmas.Result.{err_from_is_err_and}
 use Rattle.text_model.specs.Tokens.{tokens_of}
-use Rattle.expr_text.proofs.TokenLists.{with_front, with_front-both, with_front-nothing, with_front-all, tokens_from-space, tokens_from-symbol, tokens_from-refused, tokens_from-end}
+use Rattle.expr_text.proofs.Lexemes.TokenLists.{with_front, with_front-both, with_front-nothing, with_front-all, tokens_from-space, tokens_from-symbol, tokens_from-refused, tokens_from-end}
 use Rattle.expr_text.proofs.symbols.tokens.Goals as goal
 
 pub loop-at-init : goal.loop-at-init

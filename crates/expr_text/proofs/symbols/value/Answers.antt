@@ -11,7 +11,8 @@ digit_value-digit : (b : ℕ) → is_ascii_digit b ≡ true → digit_value b �
 digit_value-digit b h = grind (arith, nat_tests)
 
 -- one digit more
-next : (ds : List ℕ) (i : ℕ) → i < length ds → is_ascii_digit (get_or ds i 0) ≡ true → digits_value 10 (take (i + 1) ds) ≡ digits_value 10 (take i ds) * 10 + (get_or ds i 0 - 48)
+next : (ds : List ℕ) (i : ℕ) → i < length ds → is_ascii_digit (get_or ds i 0) ≡ true →
+    digits_value 10 (take (i + 1) ds) ≡ digits_value 10 (take i ds) * 10 + (get_or ds i 0 - 48)
 next ds i h d = digits_value_more 10 ds i h ∙ ap (λ n. digits_value 10 (take i ds) * 10 + n) (digit_value-digit _ d)
 
 pub returns-then-value : goal.returns-then-value

@@ -1,0 +1,6 @@
+-- the parts of what was read become the nodes of its tree
+pub mod Assembling
+-- what the first phases give decides the whole
+pub mod Phases
+-- the tree has the kind that is said, and a node for each part
+pub mod KindsRead
