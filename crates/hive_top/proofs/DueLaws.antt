@@ -1,104 +1,80 @@
--- What is due follows from what the counts bear out.
-use Rattle.std.proofs.Common.{◌≡◌, ℕ, Bool, true, false, List, [], Option, Some, None, IfSome, refl, sym, ◌∙◌, subst, arith, append-nil}
-use Rattle.std.proofs.KnownBytes.{Appends-nil}
+-- What a call owes by its counts follows from what they bear out.
+use Rattle.std.proofs.Common.{◌≡◌, ◌≢◌, ◌⊎◌, inl, inr, ℕ, Bool, true, false, List, [], Option, refl, sym, ◌∙◌, arith, append-nil}
 use Rattle.std.proofs.lemmas.Bool.Decides.{nat_tests}
 use Rattle.std.specs.Io.KnownBytes.{Appends}
 use Rattle.hive_edge.specs.Fault.{Calm, Rose}
-use Rattle.hive_edge.specs.Sink.{BreaksOff}
 use Rattle.hive_edge.specs.Shelf.{Files}
-use Rattle.hive_top.specs.Due.{BearsOut, IsDue, IsDueOfName, Tells}
-use Rattle.hive_top.specs.ThinAnswer.{Answer, AppendsFront, CanRise, due, name_answer, rose, stop_words}
-use Rattle.hive_top.specs.Words.{file_of}
-use Rattle.hive_top.specs.Status.{IsFound}
+use Rattle.hive_pump.specs.Written.{AppendsPrefix}
+use Rattle.hive_top.specs.Answer.{Answer, CanRise, rose}
+use Rattle.hive_top.specs.Called.{BearsOut, Called, IsAnswered, IsBrokenOff, Wrote}
 use Rattle.hive_top.specs.declared.status.Status.{Status}
-use Rattle.hive_top.specs.declared.status.Status.TheVariants.{Input, Output, Words}
+use Rattle.hive_top.specs.declared.status.Status.TheVariants as status
 
--- below its last value a count tells whether there was a fault
-pub rose-is : (b : Bool) (before now : ℕ) → BearsOut b before now → CanRise now → rose before now ≡ b
+-- below its last value a count tells whether there was a failure
+rose-is : (b : Bool) (before now : ℕ) → BearsOut b before now → CanRise now → rose before now ≡ b
 rose-is true before now h below = grind (arith, nat_tests)
 rose-is false before now h below = grind (arith, nat_tests)
 
--- what was appended is what is due
-tells-appends : (old new : Option (List ℕ)) (text : List ℕ) (status : Status) (o : Option Answer) → Tells o text status → Appends old new text →
-    IfSome o (λ a. Appends old new a.text × (status ≡ a.status))
-tells-appends old new text status None tells appends = tt
-tells-appends old new text status (Some a) tells appends = (subst (λ (t : List ℕ). Appends old new t) tells.0 appends, tells.1)
-
-tells-front : (old new : Option (List ℕ)) (text : List ℕ) (status : Status) (o : Option Answer) → Tells o text status → AppendsFront old new text →
-    IfSome o (λ a. AppendsFront old new a.text)
-tells-front old new text status None tells front = tt
-tells-front old new text status (Some a) tells front = subst (λ (t : List ℕ). AppendsFront old new t) tells.0 front
-
--- nothing is a front of anything
-pub nothing-front : (got : Option (List ℕ)) (o : Option Answer) → IfSome o (λ a. AppendsFront got got a.text)
-nothing-front got None = tt
-nothing-front got (Some a) = record { front = []; back = a.text; whole = refl; bytes = Appends-nil got }
-
-module _ (words : List (List ℕ)) (files : Option Files) (rest : Option (List ℕ)) (f f' s s' : ℕ) (text : List ℕ) (status : Status) where
-  pub due-appends : (old new : Option (List ℕ)) → IsDue words files rest f f' s s' text status → CanRise f' → CanRise s' → Appends old new text →
-      IfSome (due words files rest (rose f f') (rose s s')) (λ a. Appends old new a.text × (status ≡ a.status))
-  due-appends old new d fb sb appends =
-      rw (rose-is d.shelf f f' d.shelf_count fb, rose-is d.source s s' d.source_count sb)
-      (tells-appends old new text status (due words files rest d.shelf d.source) d.answer appends)
-
-  pub due-front : (old new : Option (List ℕ)) → IsDue words files rest f f' s s' text status → CanRise f' → CanRise s' → AppendsFront old new text →
-      IfSome (due words files rest (rose f f') (rose s s')) (λ a. AppendsFront old new a.text)
-  due-front old new d fb sb front =
-      rw (rose-is d.shelf f f' d.shelf_count fb, rose-is d.source s s' d.source_count sb)
-      (tells-front old new text status (due words files rest d.shelf d.source) d.answer front)
-
-  -- the text may be written
-  pub due-text : (d : IsDue words files rest f f' s s' text status) → IfSome (due words files rest d.shelf d.source) (λ a. text ≡ a.text)
-  due-text d = by (due words files rest d.shelf d.source) d.answer
-    where
-      by : (o : Option Answer) → Tells o text status → IfSome o (λ a. text ≡ a.text)
-      by None tells = tt
-      by (Some a) tells = tells.0
-
-  -- the words name a file
-  pub due-name : (name : List ℕ) → file_of words ≡ Some name → IsDueOfName (name_answer name files rest) f f' s s' text status →
-      IsDue words files rest f f' s s' text status
-  unfolding due
-  due-name name is d = record {
-    shelf = d.shelf;
-    source = d.source;
-    shelf_count = d.shelf_count;
-    source_count = d.source_count;
-    answer = rw is d.answer;
-    input = d.input;
-  }
-
-  -- wrong words
-  pub due-words : file_of words ≡ None → f' ≡ f → s' ≡ s → text ≡ stop_words.text → status ≡ Words →
-      IsDue words files rest f f' s s' text status
-  unfolding due
-  due-words is shelf source is_text is_status = record {
-    shelf = false;
-    source = false;
-    shelf_count = shelf;
-    source_count = source;
-    answer = rw is (is_text, is_status);
-    input = λ e. absurd (other (sym is_status ∙ e));
-  }
-    where
-      other : Words ≡ Input → ⊥
-      other e = cc
-
--- a front of the whole text is the text itself
-pub front-whole : (old new : Option (List ℕ)) (text : List ℕ) → Appends old new text → AppendsFront old new text
-front-whole old new text appends = record { front = text; back = []; whole = sym (append-nil text); bytes = appends }
-
-pub front-broken : (old new : Option (List ℕ)) (admits admits' : List ℕ → Type 0) (text : List ℕ) → BreaksOff old new admits admits' text →
-    AppendsFront old new text
-front-broken old new admits admits' text b = record { front = b.front; back = b.back; whole = b.whole; bytes = b.bytes }
-
 -- a count that rose isn't calm
-pub not-calm : (before now : ℕ) → Rose before now → Calm before now → ⊥
+not-calm : (before now : ℕ) → Rose before now → Calm before now → ⊥
 not-calm before now rose calm = omega (arith, rose.0, rose.1, calm.0, calm.1)
 
--- a status that is found is neither of these
-pub found-not-words : (status : Status) → IsFound status → status ≡ Words → ⊥
-found-not-words status found e = subst IsFound e found
+prefix-whole : (old new : Option (List ℕ)) (text : List ℕ) → Appends old new text → AppendsPrefix old new text
+prefix-whole old new text appends = record { front = text; back = []; whole = sym (append-nil text); bytes = appends }
 
-pub found-not-output : (status : Status) → IsFound status → status ≡ Output → ⊥
-found-not-output status found e = subst IsFound e found
+module _ (words : List (List ℕ)) (files : Option Files) (rest now got got' : Option (List ℕ)) (f f' s s' k k' : ℕ) where
+  pub answered : (ended : Status) → Called words files rest now got got' f f' s s' k k' ended → CanRise f' → CanRise s' → Calm k k' →
+      ended ≢ status.NoMemory → IsAnswered words files rest now (rose f f') (rose s s') got got' ended
+  answered ended c fb sb calm enough =
+      rw (rose-is c.shelf f f' c.shelf_count fb, rose-is c.source s s' c.source_count sb) (by ended c.wrote enough)
+    where
+      by : (it : Status) → Wrote it got got' k k' c.answer → it ≢ status.NoMemory → IsAnswered words files rest now c.shelf c.source got got' it
+      by status.Output wrote enough = absurd (not-calm k k' wrote.1 calm)
+      by status.NoMemory wrote enough = absurd (enough refl)
+      by status.AllOk wrote enough = record { answer = c.answer; due = c.due; bytes = wrote.0; status_is = wrote.1 }
+      by status.SomeNot wrote enough = record { answer = c.answer; due = c.due; bytes = wrote.0; status_is = wrote.1 }
+      by status.Words wrote enough = record { answer = c.answer; due = c.due; bytes = wrote.0; status_is = wrote.1 }
+      by status.Options wrote enough = record { answer = c.answer; due = c.due; bytes = wrote.0; status_is = wrote.1 }
+      by status.Record wrote enough = record { answer = c.answer; due = c.due; bytes = wrote.0; status_is = wrote.1 }
+      by status.Input wrote enough = record { answer = c.answer; due = c.due; bytes = wrote.0; status_is = wrote.1 }
+
+  pub broken : (ended : Status) → Called words files rest now got got' f f' s s' k k' ended → CanRise f' → CanRise s' →
+      IsBrokenOff words files rest now (rose f f') (rose s s') got got'
+  broken ended c fb sb =
+      rw (rose-is c.shelf f f' c.shelf_count fb, rose-is c.source s s' c.source_count sb)
+      (record { answer = c.answer; due = c.due; bytes = by ended c.wrote })
+    where
+      by : (it : Status) → Wrote it got got' k k' c.answer → AppendsPrefix got got' c.answer.text
+      by status.Output wrote = wrote.0
+      by status.NoMemory wrote = wrote.0
+      by status.AllOk wrote = prefix-whole got got' c.answer.text wrote.0
+      by status.SomeNot wrote = prefix-whole got got' c.answer.text wrote.0
+      by status.Words wrote = prefix-whole got got' c.answer.text wrote.0
+      by status.Options wrote = prefix-whole got got' c.answer.text wrote.0
+      by status.Record wrote = prefix-whole got got' c.answer.text wrote.0
+      by status.Input wrote = prefix-whole got got' c.answer.text wrote.0
+
+  pub input-cause : (ended : Status) → Called words files rest now got got' f f' s s' k k' ended → ended ≡ status.Input → Rose f f' ⊎ Rose s s'
+  input-cause ended c e = by c.shelf c.source c.shelf_count c.source_count (c.input e)
+    where
+      by : (t u : Bool) → BearsOut t f f' → BearsOut u s s' → (t ≡ true) ⊎ (u ≡ true) → Rose f f' ⊎ Rose s s'
+      by true u a b h = inl a
+      by false true a b h = inr b
+      by false false a b (inl h) = absurd cc
+      by false false a b (inr h) = absurd cc
+
+  pub output-cause : (ended : Status) → Called words files rest now got got' f f' s s' k k' ended → ended ≡ status.Output → Rose k k'
+  output-cause ended c e = let wrote = rw e at c.wrote in wrote.1
+
+  pub failed-cause : (ended : Status) → Called words files rest now got got' f f' s s' k k' ended → k' ≢ k → ended ≡ status.Output
+  failed-cause ended c changed = by ended c.wrote
+    where
+      by : (it : Status) → Wrote it got got' k k' c.answer → it ≡ status.Output
+      by status.Output wrote = refl
+      by status.NoMemory wrote = absurd (changed wrote.1)
+      by status.AllOk wrote = absurd (changed wrote.2)
+      by status.SomeNot wrote = absurd (changed wrote.2)
+      by status.Words wrote = absurd (changed wrote.2)
+      by status.Options wrote = absurd (changed wrote.2)
+      by status.Record wrote = absurd (changed wrote.2)
+      by status.Input wrote = absurd (changed wrote.2)

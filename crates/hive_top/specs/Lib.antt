@@ -1,5 +1,6 @@
 pub mod Status
 pub mod Words
-pub mod ThinAnswer
-pub mod Due
-pub mod Reply
+pub mod Stopped
+pub mod Answer
+pub mod Called
+pub mod RunsTo

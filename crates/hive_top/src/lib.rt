@@ -5,9 +5,10 @@
 //! traits of `hive_edge`, so a test hands it files and streams in memory.
 #![tactic(auto)]
 
-mod reply;
+mod job;
 mod run;
 mod status;
+mod stop;
 mod top;
 mod words;
 

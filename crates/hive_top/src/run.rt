@@ -1,73 +1,72 @@
-//! Evaluating the events of a run and printing their reports.
-ghost use Rattle.std.specs.Prelude.{◌≡◌, ◌<◌, false, map, length, IfOk, OnOk, ◌++◌};
+//! The run of a job.
+ghost use Rattle.std.specs.Prelude.{◌≡◌, ℕ, List, false};
+ghost use Rattle.std.specs.Io.KnownBytes.{Keeps};
+ghost use Rattle.hive_edge.specs.Fault.{Rose};
 ghost use Rattle.hive_model.specs.Runnable.{IsRunnable};
-ghost use Rattle.hive_model.specs.Event.{event_result};
-ghost use Rattle.text_model.specs.Report.{report};
-ghost use Rattle.text_model.specs.Whole.{ReadToEnd, whole};
-ghost use Rattle.hive_model.specs.Same.{texts};
-ghost use Rattle.hive_model.specs.Valid.{handle_names};
-ghost use Rattle.std.specs.List.{flat_map};
-ghost use Rattle.report_text.specs.Tallied.{CountsAll};
+ghost use Rattle.hive_pump.specs.Written.{MayWrite};
+ghost use Rattle.hive_top.specs.RunsTo.{Flushes, RunsTo, status_by};
 
-use hive_model::{EventRecord, EventStatus, Job};
-use report_text::{Counts, names_of, push_report};
-use serial_meaning::closure;
-use std::alloc::{AllocError, Global};
+use crate::status::Status;
+use hive_edge::{Sink, Source};
+use hive_model::Job;
+use hive_pump::{Ending, Plan, pump_plain};
+use report_text::Counts;
+use std::alloc::Global;
+use std::sync::Arc;
 
-/// Appends the whole text of a run over these events, and counts them. The only error is running out
-/// of memory.
-#[tactic(auto, unfolding(text_model::specs::Whole::whole))]
-pub fn run(
-    alloc: Global,
-    job: &Job,
-    events: &[EventRecord],
-    out: &mut Vec<u8>,
-) -> Result<Counts, AllocError>
-    requires runnable { IsRunnable job.now }
-    requires few { length events.now < 0x1_0000_0000 }
-    ensures text { OnOk result (out.new.items ≡ out.old.items ++ whole job.now (map (event_result job.now) events.now) ReadToEnd false) }
-    ensures counts { IfOk result (CountsAll (map (event_result job.now) events.now)) }
+// Events are evaluated one after another, on this thread.
+const PLAN: Plan = Plan {
+    slots: 1,
+    workers: 0,
+    brief: false,
+};
+
+/// Runs a job on the records of the source, and flushes the sink where nothing broke the run off.
+pub fn run<S: Source, K: Sink>(alloc: Global, job: Job, source: &mut S, sink: &mut K) -> Status
+    requires runnable { IsRunnable job }
+    requires room { (text : List ℕ) → MayWrite job false (S.rest source.old) text → K.admits sink.old text }
+    ensures { RunsTo job (S.rest source.old) (S.rest source.new) (K.got sink.old) (K.got sink.new)
+        (S.faults source.old) (S.faults source.new) (K.faults sink.old) (K.faults sink.new) result }
 {
-    let names = names_of(alloc, job)?;
-    let counts = push_events(alloc, job, names.as_slice(), events, out)?;
-    counts.push_line(out)?;
-    Ok(counts)
+    let Ok(job) = Arc::new(alloc, job) else {
+        return Status::NoMemory;
+    };
+    let pumped = pump_plain(alloc, job, &PLAN, source, sink);
+    flush(sink, status_of(pumped.ending, &pumped.counts))
 }
 
-fn push_events(
-    alloc: Global,
-    job: &Job,
-    names: &[&str],
-    events: &[EventRecord],
-    out: &mut Vec<u8>,
-) -> Result<Counts, AllocError>
-    requires runnable { IsRunnable job.now }
-    requires named { texts names.now ≡ handle_names job.now }
-    requires few { length events.now < 0x1_0000_0000 }
-    ensures text { OnOk result (out.new.items ≡ out.old.items ++ flat_map (report job.now) (map (event_result job.now) events.now)) }
-    ensures counts { IfOk result (CountsAll (map (event_result job.now) events.now)) }
+fn status_of(ending: Ending, counts: &Counts) -> Status
+    ensures { result ≡ status_by ending counts.now }
 {
-    let mut counts = Counts::new();
-    for event in events {
-        let status = push_event(alloc, job, names, event, out)?;
-        counts.add(status);
+    match ending {
+        Ending::All => all_or_not(counts),
+        Ending::Refused(_) => Status::Record,
+        Ending::Source => Status::Input,
+        Ending::Sink => Status::Output,
+        Ending::NoMemory => Status::NoMemory,
     }
-    Ok(counts)
 }
 
-fn push_event(
-    alloc: Global,
-    job: &Job,
-    names: &[&str],
-    event: &EventRecord,
-    out: &mut Vec<u8>,
-) -> Result<EventStatus, AllocError>
-    requires runnable { IsRunnable job.now }
-    requires named { texts names.now ≡ handle_names job.now }
-    ensures text { OnOk result (out.new.items ≡ out.old.items ++ report job.now (event_result job.now event.now)) }
-    ensures status { IfOk result (λ status. status ≡ (event_result job.now event.now).status) }
+fn all_or_not(counts: &Counts) -> Status
+    ensures { result ≡ status_by Ending.All counts.now }
 {
-    let ended = closure(alloc, job, event)?;
-    push_report(out, job, names, &ended)?;
-    Ok(ended.status)
+    if counts.ok == counts.events {
+        Status::AllOk
+    } else {
+        Status::SomeNot
+    }
+}
+
+/// Flushes the sink where a call would end so, and gives the status with which it ends.
+pub fn flush<K: Sink>(sink: &mut K, status: Status) -> Status
+    ensures { Flushes (K.got sink.old) (K.got sink.new) (K.faults sink.old) (K.faults sink.new) status result }
+{
+    match status {
+        Status::Output => Status::Output,
+        Status::NoMemory => Status::NoMemory,
+        _ => match sink.flush() {
+            Ok(()) => status,
+            Err(_) => Status::Output,
+        },
+    }
 }

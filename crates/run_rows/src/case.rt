@@ -46,12 +46,12 @@ pub(crate) fn case_of(alloc: Global, line: &str) -> Result<Option<Case<'_>>, All
 }
 
 // A number, or 0 where it isn't one.
-fn number_of(text: &str) -> usize {
+pub(crate) fn number_of(text: &str) -> usize {
     text.trim().parse().unwrap_or(0)
 }
 
 // Numbers with spaces between; a word that is none counts as 0, which no call has.
-fn numbers_of(alloc: Global, text: &str) -> Result<Vec<u64>, AllocError> {
+pub(crate) fn numbers_of(alloc: Global, text: &str) -> Result<Vec<u64>, AllocError> {
     let mut numbers = Vec::new(alloc);
     for word in text.split_whitespace() {
         numbers.push(word.parse().unwrap_or(0))?;

@@ -1,5 +1,7 @@
 //! The outside in memory that never fails, and each trait once at it.
-use hive_edge::{CleanShelf, CleanSink, CleanSource, InputFault, Shelf, Sink, read_all, send};
+use hive_edge::{
+    CleanShelf, CleanSink, CleanSource, InputFault, Shelf, ShelfFault, Sink, read_all, send,
+};
 use hive_model::Text;
 use std::alloc::{AllocError, Global};
 
@@ -10,6 +12,8 @@ pub(crate) fn print_calls(rt: &HostRuntime) -> anyhow::Result<()> {
     println!(rt; "sent {text:?}")?;
     let text = fetched(rt.alloc())?;
     println!(rt; "fetched {text:?}")?;
+    let fault = ShelfFault::from(AllocError);
+    println!(rt; "out of memory {fault:?}")?;
     Ok(())
 }
 

@@ -11,6 +11,8 @@ ghost use Rattle.std.specs.Prelude.{◌<◌};
 
 mod case;
 mod edge;
+mod outside;
+mod real;
 mod run;
 
 use case::{Case, case_of};
@@ -21,18 +23,39 @@ fn main(rt: HostRuntime) -> anyhow::Result<()> {
     let mut count: u64 = 0;
     for line in rt.lines(rt.alloc()) {
         let line = line?;
-        print_row(&rt, line.as_str())?;
-        count = count.saturating_add(1);
+        if print_row(&rt, line.as_str())? {
+            count = count.saturating_add(1);
+        } else {
+            println!(rt; "no row: {line}")?;
+        }
     }
     edge::print_calls(&rt)?;
     println!(rt; "{count} rows")?;
     Ok(())
 }
 
-fn print_row(rt: &HostRuntime, line: &str) -> anyhow::Result<()> {
+// Prints what a line comes to, and says whether it is a row.
+fn print_row(rt: &HostRuntime, line: &str) -> anyhow::Result<bool> {
     match case_of(rt.alloc(), line)? {
-        Some(case) => print_case(rt, &case),
-        None => Ok(println!(rt; "no row: {line}")?),
+        Some(case) => {
+            print_case(rt, &case)?;
+            Ok(true)
+        }
+        None => print_calls(rt, line),
+    }
+}
+
+fn print_calls(rt: &HostRuntime, line: &str) -> anyhow::Result<bool> {
+    let text = match outside::calls_of(rt.alloc(), line)? {
+        Some(text) => Some(text),
+        None => real::calls_of(rt, rt.alloc(), line)?,
+    };
+    match text {
+        Some(text) => {
+            println!(rt; "{text}")?;
+            Ok(true)
+        }
+        None => Ok(false),
     }
 }
 

@@ -1,0 +1,55 @@
+-- The job of a text that was fetched, and of one that is too long.
+use Rattle.std.proofs.Common.{◌≡◌, ℕ, ◌<◌, ◌≤◌, nat_le, true, false, List, length, Option, Some, None, Result, Ok, Err, refl, ap, sym, ◌∙◌, cond, arith}
+use Rattle.std.proofs.lemmas.Bool.Decides.{nat_tests}
+use Rattle.std.specs.Option.{IsSomeAnd, option_and_then, option_map}
+use Rattle.hive_edge.specs.Shelf.{Fetches, Files, text_of}
+use Rattle.hive_edge.specs.declared.shelf.ShelfFault.TheVariants.{Over}
+use Rattle.hive_model.specs.Job.{Job}
+use Rattle.text_model.specs.declared.limits.TheConstants.{MOST_OPTIONS_BYTES}
+use Rattle.hive_top.specs.Answer.{file_job, named_job}
+use Rattle.hive_top.specs.Called.{CountsShelf, IsOfText, ReadsJob}
+use Rattle.hive_top.specs.declared.stop.Stop.{Stop}
+use Rattle.hive_top.specs.declared.stop.Stop.TheVariants as stop
+
+-- what is read of the text under a name is read of the file
+reads-along : (told : Option (Result Job Stop)) (it : Result Job Stop) (read : Result Job Stop) → told ≡ Some it → ReadsJob (Some it) read → ReadsJob told read
+reads-along told it read e reads = rw e reads
+
+untold : (read : Result Job Stop) → ReadsJob None read
+untold (Ok job) = tt
+untold (Err stop.Words) = tt
+untold (Err stop.Shelf) = tt
+untold (Err stop.NotBuilt) = tt
+untold (Err stop.NoMemory) = tt
+
+pub job-fetched : (name : List ℕ) (files : Option Files) (out : List ℕ) (read : Result Job Stop) → Fetches files name MOST_OPTIONS_BYTES (Ok tt) out →
+    ReadsJob (Some (file_job out)) read → ReadsJob (named_job name files) read
+job-fetched name None out read fetched reads = untold read
+job-fetched name (Some it) out read fetched reads =
+    reads-along (named_job name (Some it)) (file_job out) read (ap (option_map file_job) fetched) reads
+
+pub job-over : (name : List ℕ) (files : Option Files) (out : List ℕ) → Fetches files name MOST_OPTIONS_BYTES (Err Over) out →
+    ReadsJob (named_job name files) (Err stop.NotBuilt)
+unfolding file_job
+job-over name None out fetched = tt
+job-over name (Some it) out fetched = by (text_of name it) fetched
+  where
+    by : (o : Option (List ℕ)) → IsSomeAnd o (λ all. MOST_OPTIONS_BYTES < length all) → ReadsJob (option_map file_job o) (Err stop.NotBuilt)
+    by None over = absurd over
+    by (Some all) over =
+        let long : nat_le (length all) MOST_OPTIONS_BYTES ≡ false = grind (arith, nat_tests) in
+        rw long refl
+
+pub of-text-calm : (read : Result Job Stop) (before now : ℕ) → IsOfText read → now ≡ before → CountsShelf read before now
+of-text-calm (Ok job) before now h same = same
+of-text-calm (Err stop.NotBuilt) before now h same = same
+of-text-calm (Err stop.NoMemory) before now h same = same
+of-text-calm (Err stop.Words) before now h same = absurd h
+of-text-calm (Err stop.Shelf) before now h same = absurd h
+
+pub of-text-words : (read : Result Job Stop) → IsOfText read → read ≡ Err stop.Words → ⊥
+of-text-words (Ok job) h e = cc
+of-text-words (Err stop.NotBuilt) h e = cc
+of-text-words (Err stop.NoMemory) h e = cc
+of-text-words (Err stop.Words) h e = h
+of-text-words (Err stop.Shelf) h e = cc

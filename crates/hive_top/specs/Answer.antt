@@ -1,0 +1,74 @@
+-- What a call owes where files and source tell what they hold: a text, and the status that goes with it. The causes stand in
+-- the order words, files, options, and then the input; a failure of the files or the source takes the place of what follows it.
+use Rattle.std.specs.Prelude.{◌≡◌, ℕ, ◌-◌, ◌^◌, ◌<◌, nat_eq, nat_le, Bool, true, false, not, if◌then◌else◌, List, length, MatchOption, Option, Some, None, Result, Ok, Err, IfSome}
+use Rattle.std.specs.Io.KnownBytes.{Consumes}
+use Rattle.std.specs.Option.{option_and_then, option_map, option_map_or}
+use Rattle.hive_edge.specs.Shelf.{Files, text_of as text_named}
+use Rattle.hive_model.specs.EventResult.{EventResult}
+use Rattle.hive_model.specs.Job.{Job}
+use Rattle.hive_pump.specs.Written.{results, text_of}
+use Rattle.text_model.specs.Records.{Known, records_of, so_far}
+use Rattle.text_model.specs.Steps.{or_refuse}
+use Rattle.text_model.specs.Whole.{Ending, ReadToEnd, RefusedAt, SourceFailed, is_ok, tally}
+use Rattle.text_model.specs.declared.limits.TheConstants.{MOST_OPTIONS_BYTES}
+use Rattle.thin_texts.specs.ThinTree.{thin_job}
+use Rattle.hive_top.specs.Stopped.{status_at, text_at}
+use Rattle.hive_top.specs.Words.{file_of}
+use Rattle.hive_top.specs.declared.status.Status.{Status}
+use Rattle.hive_top.specs.declared.status.Status.TheVariants as status
+use Rattle.hive_top.specs.declared.stop.Stop.{Stop}
+use Rattle.hive_top.specs.declared.stop.Stop.TheVariants as stop
+
+pub record Answer : Type 0 where
+  pub text : List ℕ
+  pub status : Status
+
+abbrev pub stopped : Stop → Answer
+stopped it = record { text = text_at it; status = status_at it }
+
+-- the job of an options text, or what stops the call
+unfoldable pub file_job : List ℕ → Result Job Stop
+file_job text = if nat_le (length text) MOST_OPTIONS_BYTES then or_refuse stop.NotBuilt (thin_job text) else Err stop.NotBuilt
+
+-- that of a file's name, where the files are told; a name that isn't there is a failure
+abbrev pub named_job : List ℕ → Option Files → Option (Result Job Stop)
+named_job name files = option_map file_job (option_and_then (text_named name) files)
+
+-- by how the input ended, and whether as many results are ok as there are
+abbrev pub status_of : List EventResult → Ending → Status
+status_of rs ReadToEnd = if nat_eq (tally is_ok rs) (length rs) then status.AllOk else status.SomeNot
+status_of rs (RefusedAt refusal) = status.Record
+status_of rs SourceFailed = status.Input
+
+-- the whole text of what is known of the input, which ends so where no line was refused
+abbrev pub run_answer : Job → Ending → Known → Answer
+run_answer job last known = record {
+  text = text_of job false last known;
+  status = status_of (results job known.records) (option_map_or RefusedAt known.refusal last);
+}
+
+-- The answer of a run. Where the source failed, it is that of the bytes which it gave, and no line of them was refused.
+abbrev pub IsDueOfJob : Option (List ℕ) → Option (List ℕ) → Bool → Job → Answer → Type 0
+IsDueOfJob rest now false job a = IfSome rest (λ text. a ≡ run_answer job ReadToEnd (records_of job text))
+IsDueOfJob rest now true job a =
+    (text : List ℕ) × Consumes rest now text × ((so_far job text).refusal ≡ None) × (a ≡ run_answer job SourceFailed (so_far job text))
+
+abbrev pub IsDueOfFile : Option (List ℕ) → Option (List ℕ) → Bool → Result Job Stop → Answer → Type 0
+IsDueOfFile rest now source (Ok job) a = IsDueOfJob rest now source job a
+IsDueOfFile rest now source (Err it) a = a ≡ stopped it
+
+abbrev pub IsDueOfName : List ℕ → Option Files → Option (List ℕ) → Option (List ℕ) → Bool → Bool → Answer → Type 0
+IsDueOfName name files rest now true source a = a ≡ stopped stop.Shelf
+IsDueOfName name files rest now false source a = IfSome (named_job name files) (λ read. IsDueOfFile rest now source read a)
+
+-- The answer that is due, where this is true of files and source. What isn't told leaves it open.
+pub record IsDue (words : List (List ℕ)) (files : Option Files) (rest now : Option (List ℕ)) (shelf source : Bool) (a : Answer) : Type 0 where
+  pub due : MatchOption (file_of words) (a ≡ stopped stop.Words) (λ name. IsDueOfName name files rest now shelf source a)
+
+-- the count rose between two moments
+abbrev pub rose : ℕ → ℕ → Bool
+rose before now = not (nat_eq now before)
+
+-- the count can still rise
+abbrev pub CanRise : ℕ → Type 0
+CanRise count = count < 2 ^ 64 - 1
