@@ -4,3 +4,5 @@ pub mod Deeper
 pub mod Finding
 pub mod Following
 pub mod Searching
+-- places in an order
+pub mod Ranking

@@ -6,11 +6,13 @@ ghost use Rattle.graph_parts.specs.Following.{Follows, found_with};
 ghost use Rattle.graph_parts.specs.Links.{AreWithin, links};
 
 use crate::flags::filled;
+use crate::order::is_ordered;
 use std::alloc::{AllocError, Global};
 
 /// The first number that lies on a cycle: it leads back to itself. The only error is running out of memory.
 ///
-/// `next` holds, of each number, those that it leads to.
+/// `next` holds, of each number, those that it leads to. Where there is no cycle this takes time linear in the numbers
+/// and in what they lead to; where there is one, it goes out from each number before the first that lies on it.
 pub fn first_on_cycle(alloc: Global, next: &[Vec<u16>]) -> Result<Option<usize>, AllocError>
     requires { AreWithin next.now }
     ensures first { IfOk result (λ found. found
@@ -20,6 +22,9 @@ pub fn first_on_cycle(alloc: Global, next: &[Vec<u16>]) -> Result<Option<usize>,
     ensures none { IfOk result (λ found. found ≡ None → (steps n : ℕ) → n < length next.now
         → leads_within (links next.now) steps n n ≡ false) }
 {
+    if is_ordered(alloc, next)? {
+        return Ok(None);
+    }
     for number in 0..next.len() {
         if leads_back(alloc, next, number)? {
             return Ok(Some(number));

@@ -10,6 +10,7 @@ mod cycle;
 mod depth;
 mod flags;
 mod names;
+mod order;
 
 pub use cycle::first_on_cycle;
 pub use depth::first_deeper;
