@@ -2,5 +2,3 @@
 pub mod Assembling
 -- what the first phases give decides the whole
 pub mod Phases
--- the tree has the kind that is said, and a node for each part
-pub mod KindsRead

@@ -2,5 +2,4 @@ pub mod Gives
 pub mod Parts
 pub mod Assembly
 pub mod Printed
-pub mod Known
 pub mod Stops

@@ -6,7 +6,7 @@ ghost use Rattle.hive_model.specs.Tree.{nodes_of};
 ghost use Rattle.hive_model.specs.Kinds.{IsExpression};
 ghost use Rattle.text_model.specs.Written.{Written};
 ghost use Rattle.hive_model.specs.declared.product.Kind.{Kind};
-ghost use Rattle.expr_text.specs.Known.{Knows};
+ghost use Rattle.text_laws.specs.Known.{Knows};
 ghost use Rattle.expr_text.specs.Parts.{postfix};
 ghost use Rattle.expr_text.specs.declared.assembly.Slot.{Slot};
 ghost use Rattle.expr_text.specs.declared.grammar.Part.{Part};

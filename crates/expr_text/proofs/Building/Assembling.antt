@@ -19,6 +19,7 @@ use Rattle.hive_model.specs.declared.product.Kind.TheVariants as kinds
 use Rattle.text_model.specs.declared.token.Form.{Form}
 use Rattle.text_model.specs.declared.token.Form.TheVariants as forms
 use Rattle.event_laws.proofs.Trees.{length-nodes_from}
+use Rattle.text_laws.proofs.Reading.{sizes}
 use Rattle.expr_text.specs.Assembly.{call_over, node_over, of_kind, run}
 use Rattle.expr_text.specs.Parts.{count, part, postfix, postfix_all}
 use Rattle.expr_text.specs.declared.assembly.Slot.{Slot}
@@ -42,10 +43,6 @@ bind_same (Ok x) f g h = h x
 bind_same (Err e) f g h = refl
 
 -- nodes of trees in a row
-
-abbrev pub sizes : List (Tree × Kind) → ℕ
-sizes [] = 0
-sizes (x ∷ xs) = tree_size x.0 + sizes xs
 
 abbrev pub nodes_all : ℕ → List (Tree × Kind) → List Node
 nodes_all from [] = []

@@ -2,7 +2,7 @@ use Rattle.std.proofs.Common.{length, Err, sym, ap, ◌∙◌, arith}
 use Rattle.std.proofs.lemmas.Result.{err_from_is_err_and}
 use Rattle.hive_model.specs.Same.{same_kind}
 use Rattle.text_model.specs.declared.expr_refusal.ExprRefusal.TheVariants as refusals
-use Rattle.expr_text.proofs.Building.KindsRead.{read-valid}
+use Rattle.text_laws.proofs.Reading.{read-valid}
 use Rattle.expr_text.proofs.Building.Phases.{tree_of_kind-many, tree_of_kind-wanted, tree_of_kind-unwanted, tree_of_kind-refused, length-postfix, postfix-last, tree-refused, tree-read}
 use Rattle.expr_text.proofs.parser.nodes.Goals as goal
 
