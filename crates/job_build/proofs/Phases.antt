@@ -1,6 +1,5 @@
 -- The phases of a job's definition, one after another.
-use Rattle.std.proofs.Common.{codes, ◌≡◌, ◌≢◌, ℕ, ◌+◌, ◌==◌, ◌≤◌, nat_eq, nat_lt, Bool, true, false, not, ◌&&◌, if◌then◌else◌, List, [], ◌∷◌, ◌++◌, length, map, find, position, Option, Some, None, Result, Ok, Err, option_map, refl, ap, sym, ◌∙◌, arith, length-append}
-use Rattle.std.proofs.lemmas.Bool.Decides.{nat_tests}
+use Rattle.std.proofs.Common.{codes, ◌≡◌, ◌≢◌, ℕ, ◌+◌, ◌==◌, ◌≤◌, nat_eq, nat_lt, Bool, true, false, not, ◌&&◌, if◌then◌else◌, List, [], ◌∷◌, ◌++◌, length, map, find, position, Option, Some, None, Result, Ok, Err, IfOk, option_map, refl, ap, sym, ◌∙◌, arith, length-append}
 use Rattle.std.proofs.lemmas.List.{length-map}
 use Rattle.std.specs.List.{AllByRecursion, enumerate_from, flat_map, list_any, zip}
 use Rattle.std.specs.Option.{option_map_or}
@@ -8,12 +7,13 @@ use Rattle.hive_model.specs.Algorithm.{Algorithm}
 use Rattle.hive_model.specs.Below.{is_algorithm_below}
 use Rattle.hive_model.specs.Job.{Job}
 use Rattle.hive_model.specs.Sequence.{Sequence}
-use Rattle.hive_model.specs.Valid.{AreDistinctNames, handle_names}
+use Rattle.hive_model.specs.Valid.{AreDistinctNames, IsValidJob, handle_names}
 use Rattle.hive_model.specs.declared.limits.TheConstants.{MOST_ALGORITHMS, MOST_HANDLES, MOST_LEAVES}
 use Rattle.hive_model.specs.declared.product.Kind.{Kind as KindOf}
 use Rattle.hive_model.specs.declared.sequence.Member.{Member}
 use Rattle.text_model.specs.CutNodes.{cut_refusal, input_cut_off, is_cut_off, is_of_wrong_kind, is_shared, may_lack, produces, shared, wrong_kind}
 use Rattle.text_model.specs.Forest.{Branch, Forest, all_of, branch_names, forest_of, forest_over, leaves_in, members_by_number, on_cycle, sequences_in, too_deep, unknown_member}
+use Rattle.text_model.specs.Gives.{Gives}
 use Rattle.text_model.specs.JobAlgorithms.{Scope, algorithms_from, raw_kinds}
 use Rattle.text_model.specs.JobNames.{algorithm_names, names_refusal, resource_names, sequence_names}
 use Rattle.text_model.specs.Jobs.{branch_of, handles_fit, job_of, job_of_raw, job_with, need_of, needs_of, raw_names, scope_of, sequence_with}
@@ -37,8 +37,10 @@ use Rattle.text_model.specs.declared.tree_refusal.TreeRefusal.TheVariants.{Seque
 use Rattle.job_build.specs.Steps.{scope_read}
 use Rattle.job_options.specs.Known.{known_language}
 use Rattle.job_options.specs.Uncut.{IsUncut}
-use Rattle.job_build.proofs.Distinct.{members-distinct}
-use Rattle.job_build.proofs.Told.{bound}
+use Rattle.text_laws.proofs.Looked.{names-looked}
+use Rattle.text_laws.proofs.Planted.{planted}
+use Rattle.text_laws.proofs.Steps.{at-most, untold}
+use Rattle.text_laws.proofs.Valid.{few-algorithms, told-valid}
 
 -- regrouping the steps
 
@@ -123,48 +125,12 @@ uncut_refusal raw algorithms forest h = nothing-cut (job_with raw algorithms for
 
 -- the forest has members for each sequence
 
-pub five : {A X E : Type 0} (a b c d e : Result A E) (x y : X) →
-    (a >>= λ _. b >>= λ _. c >>= λ _. d >>= λ _. e >>= λ _. Ok x) ≡ Ok y → x ≡ y
-five (Err r) b c d e x y h = cc
-five (Ok m) (Err r) c d e x y h = cc
-five (Ok m) (Ok n) (Err r) d e x y h = cc
-five (Ok m) (Ok n) (Ok o) (Err r) e x y h = cc
-five (Ok m) (Ok n) (Ok o) (Ok p) (Err r) x y h = cc
-five (Ok m) (Ok n) (Ok o) (Ok p) (Ok q) x y h = cc
-
-pub over-same : (names : List (List ℕ)) (members : List (List Member)) (top : ℕ) (f : Forest) → forest_over names members top ≡ Ok f →
-    record { members = members; top = top } ≡ f
-unfolding forest_over
-over-same names members top f e =
-    five (refuse_some (λ s. SharedSequence (name_at names s)) (first_repeated nat_eq (sequences_in (all_of members))))
-    (refuse_some (λ s. SequenceCycle (name_at names s)) (on_cycle members))
-    (refuse_if (list_any (nat_eq top) (sequences_in (all_of members))) TopIsMember)
-    (refuse_some (λ s. TooDeep (name_at names s)) (too_deep members))
-    (refuse_if (nat_lt MOST_LEAVES (length (leaves_in (all_of members)))) TooManyLeaves)
-    (record { members = members; top = top }) f e
-
-over-members : (names : List (List ℕ)) (members : List (List Member)) (top : ℕ) (f : Forest) → forest_over names members top ≡ Ok f → members ≡ f.members
-over-members names members top f e = ap (λ (it : Forest). it.members) (over-same names members top f e)
-
-pub untold : {A E F : Type 0} (told : E → F) (r : Result A E) (y : A) → map_err told r ≡ Ok y → r ≡ Ok y
-untold told (Ok x) y e = cc
-untold told (Err r) y e = cc
-
-of-members : (algorithms : List (List ℕ)) (branches : List Branch) (top : List ℕ) (f : Forest) → forest_of algorithms branches top ≡ Ok f →
-    members_by_number algorithms branches ≡ f.members
-unfolding forest_of
-of-members algorithms branches top f e =
-    let (number, found, known) = bound (or_refuse (UnknownTop top) (number_of (branch_names branches) top))
-    (λ number. refuse_found (unknown_member algorithms branches) >>= λ _. forest_over (branch_names branches) (members_by_number algorithms branches) number) f e in
-    let (unit, none, over) = bound (refuse_found (unknown_member algorithms branches))
-    (λ _. forest_over (branch_names branches) (members_by_number algorithms branches) number) f known in
-    over-members (branch_names branches) (members_by_number algorithms branches) number f over
-
 pub forest-members : (raw : RawOptions) (f : Forest) → forest_read raw ≡ Ok f → length f.members ≡ length raw.sequences
 forest-members raw f e =
-    let of = untold of_tree (forest_of (algorithm_names raw) (map branch_of raw.sequences) raw.top) f e in
-    let same = of-members (algorithm_names raw) (map branch_of raw.sequences) raw.top f of in
-    rw (← same, length-map, length-map) refl
+    let grown =
+    planted (algorithm_names raw) (map branch_of raw.sequences) raw.top f
+    (untold of_tree (forest_of (algorithm_names raw) (map branch_of raw.sequences) raw.top) f e) in
+    rw (grown.members, length-map, length-map) refl
 
 -- the names and the room where the scope was read
 
@@ -185,7 +151,7 @@ handles-within raw e = by (nat_lt MOST_HANDLES (length (handles_of (raw_names ra
     by : (t : Bool) → nat_lt MOST_HANDLES (length (handles_of (raw_names raw) (needs_of raw))) ≡ t →
         refuse_if t (Options (Range (codes "handle"))) ≡ Ok tt → length (handles_of (raw_names raw) (needs_of raw)) ≤ MOST_HANDLES
     by true test h = cc
-    by false test h = grind (arith, nat_tests)
+    by false test h = at-most (length (handles_of (raw_names raw) (needs_of raw))) MOST_HANDLES test
 
 outputs-length : (algorithms : List RawAlgorithm) →
     length (flat_map (λ (a : Need). a.outputs) (map need_of algorithms)) ≡ length (flat_map (λ (a : RawAlgorithm). a.outputs) algorithms)
@@ -234,7 +200,7 @@ scope-built raw raws needs g kinds resources named need few unrefused built of_k
     rw (fit, unrefused, read, of_kinds, of_resources) refl
 
 pub scope-names : (raw : RawOptions) (s : Scope) → scope_read raw ≡ Ok s → AreDistinctNames (algorithm_names raw ++ sequence_names raw)
-scope-names raw s e = members-distinct raw (scope-checked raw s e).1
+scope-names raw s e = (names-looked raw (scope-checked raw s e).1).members
 
 -- the phases behind the scope
 
@@ -253,13 +219,6 @@ pub job-built : (raw : RawOptions) (s : Scope) (algorithms : List Algorithm) (f 
     algorithms_from s 1 (length raw.raws) raw.algorithms ≡ Ok algorithms → forest_read raw ≡ Ok f → job_of_raw raw ≡ Ok (job_with raw algorithms f)
 job-built raw s algorithms f uncut read built forest = scope-first raw ∙ rw (read, built, forest, uncut_refusal raw algorithms f uncut) refl
 
-pub few-algorithms : (raw : RawOptions) → HasShape raw → length raw.algorithms ≤ MOST_ALGORITHMS
-few-algorithms raw h = by (raw.version == FIRST_VERSION) h.few_algorithms
-  where
-    by : (t : Bool) → length raw.algorithms ≤ (if t then MOST_ALGORITHMS_OF_VERSION_1 else MOST_ALGORITHMS) → length raw.algorithms ≤ MOST_ALGORITHMS
-    by true h = omega arith
-    by false h = h
-
 -- the text
 
 pub job-of-read : (bytes : List ℕ) (raw : RawOptions) → read_of known_language bytes ≡ Ok raw → job_of known_language bytes ≡ job_of_raw raw
@@ -272,7 +231,13 @@ unfolding job_of
 job-of-refused bytes e refused other =
     let read = refused (λ same. other (ap of_options same)) in rw read refl
 
-pub ruleset reading = (job-of-read, job-of-refused)
+-- where a job is answered, it is valid
+
+pub given-valid : (raw : RawOptions) (r : Result Job JobRefusal) → HasShape raw → Gives NoMemory r (job_of_raw raw) → IfOk r IsValidJob
+given-valid raw (Ok job) shape told = told-valid raw job shape told
+given-valid raw (Err e) shape told = tt
+
+pub ruleset reading = (job-of-read, job-of-refused, given-valid)
 
 pub ruleset few = (few-algorithms)
 

@@ -1,5 +1,6 @@
 //! The job of an options text.
 ghost use Rattle.std.specs.Prelude.{◌≡◌, ◌≤◌, length, IfOk};
+ghost use Rattle.hive_model.specs.Valid.{IsValidJob};
 ghost use Rattle.job_build.specs.Steps.{scope_read};
 ghost use Rattle.job_options.specs.Known.{known_language};
 ghost use Rattle.job_options.specs.Uncut.{IsUncut};
@@ -25,7 +26,8 @@ use text_model::{JobRefusal, OptionsRefusal, RawOptions};
 /// docs/FORMATS.md, "Refusals of options", and that memory ran out, here or in a part.
 #[tactic(auto, using(crate::proofs::Phases::reading))]
 pub fn build(alloc: Global, bytes: &[u8]) -> Result<Job, JobRefusal>
-    ensures { Gives NoMemory result (job_of known_language bytes.now) }
+    ensures meaning { Gives NoMemory result (job_of known_language bytes.now) }
+    ensures valid { IfOk result IsValidJob }
 {
     match read(alloc, bytes) {
         Ok(raw) => build_raw(alloc, raw),

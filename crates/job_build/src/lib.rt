@@ -2,8 +2,8 @@
 //!
 //! [`build`] is the call. What it answers is the definition `job_of` of text_model, for every text: the shape of the
 //! tables, the number of handles, names, producers, expressions and the forest, phase after phase (docs/FORMATS.md,
-//! "Refusals of options"). That a job which it answers is valid, as `Valid` of hive_model has it, isn't yet a clause of
-//! it.
+//! "Refusals of options"). A job that it answers is valid, as `Valid` of hive_model has it: that is a law of the
+//! definition, which `text_laws` has.
 #![tactic(auto)]
 
 mod algorithms;
