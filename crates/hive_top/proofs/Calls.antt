@@ -17,15 +17,19 @@ use Rattle.text_model.specs.Records.{Known, most_events, records_of, so_far}
 use Rattle.text_model.specs.Report.{report}
 use Rattle.text_model.specs.Whole.{Ending as Last, ReadToEnd, RefusedAt, SourceFailed, is_ok, last_line, reports, tally, whole}
 use Rattle.text_model.specs.declared.record_refusal.RecordRefusal.{RecordRefusal}
-use Rattle.hive_top.specs.Answer.{Answer, IsDue, IsDueOfFile, IsDueOfJob, IsDueOfName, named_job, run_answer, status_of, stopped}
+use Rattle.hive_top.specs.Answer.{Answer, IsDue, IsDueOfFile, IsDueOfJob, IsDueOfName, IsDueOfVerb, checked, named_job, run_answer, status_of, stopped}
 use Rattle.hive_top.specs.Called.{BearsOut, Called, CountsShelf, ReadsJob, Wrote}
 use Rattle.hive_top.specs.RunsTo.{RunsTo, WroteRun}
+use Rattle.hive_top.specs.Status.{IsOneOf}
 use Rattle.hive_top.specs.Stopped.{status_at, text_at}
-use Rattle.hive_top.specs.Words.{file_of}
+use Rattle.hive_top.specs.Words.{command_of}
+use Rattle.hive_top.specs.Works.{MayWork, WorksTo}
 use Rattle.hive_top.specs.declared.status.Status.{Status}
 use Rattle.hive_top.specs.declared.status.Status.TheVariants as status
 use Rattle.hive_top.specs.declared.stop.Stop.{Stop}
 use Rattle.hive_top.specs.declared.stop.Stop.TheVariants as stop
+use Rattle.hive_top.specs.declared.words.Verb.{Verb}
+use Rattle.hive_top.specs.declared.words.Verb.TheVariants.{Run, Check}
 
 -- once a line was refused, more of the text says nothing new
 stays : (job : Job) (text more : List ℕ) (refusal : RecordRefusal) → (so_far job text).refusal ≡ Some refusal →
@@ -39,43 +43,45 @@ last-same job refusal known is = rw is refl
 
 module _ (words : List (List ℕ)) (files : Option Files) (rest : Option (List ℕ)) where
   -- the answer of wrong words
-  pub due-words : (now : Option (List ℕ)) → file_of words ≡ None → IsDue words files rest now false false (stopped stop.Words)
+  pub due-words : (now : Option (List ℕ)) → command_of words ≡ None → IsDue words files rest now false false (stopped stop.Words)
   due-words now is = record { due = rw is refl }
 
-  -- the answer of what stopped the call at the files
-  pub due-stop : (now : Option (List ℕ)) (name : List ℕ) (it : Stop) → file_of words ≡ Some name → ReadsJob (named_job name files) (Err it) →
-      it ≢ stop.Shelf → it ≢ stop.NoMemory → IsDue words files rest now false false (stopped it)
-  due-stop now name stop.Shelf is reads a b = absurd (a refl)
-  due-stop now name stop.NoMemory is reads a b = absurd (b refl)
-  due-stop now name stop.Words is reads a b = record { due = rw is (by (named_job name files) reads) }
-    where
-      by : (o : Option (Result Job Stop)) → IfSome o (λ read. Err stop.Words ≡ read) →
-          IfSome o (λ read. IsDueOfFile rest now false read (stopped stop.Words))
-      by None h = tt
-      by (Some read) h = rw (← h) refl
-  due-stop now name stop.NotBuilt is reads a b = record { due = rw is (by (named_job name files) reads) }
-    where
-      by : (o : Option (Result Job Stop)) → IfSome o (λ read. Err stop.NotBuilt ≡ read) →
-          IfSome o (λ read. IsDueOfFile rest now false read (stopped stop.NotBuilt))
-      by None h = tt
-      by (Some read) h = rw (← h) refl
-
-  pub due-shelf : (now : Option (List ℕ)) (name : List ℕ) (source : Bool) → file_of words ≡ Some name →
+  pub due-shelf : (now : Option (List ℕ)) (verb : Verb) (name : List ℕ) (source : Bool) → command_of words ≡ Some (verb, name) →
       IsDue words files rest now true source (stopped stop.Shelf)
-  due-shelf now name source is = record { due = rw is refl }
+  due-shelf now verb name source is = record { due = rw is refl }
+
+  -- what is due of a file, by what its text was read to
+  due-read : (now : Option (List ℕ)) (verb : Verb) (name : List ℕ) (read : Result Job Stop) (source : Bool) (a : Answer) →
+      command_of words ≡ Some (verb, name) → IfSome (named_job name files) (λ it. read ≡ it) → IsDueOfFile verb rest now source read a →
+      IsDue words files rest now false source a
+  due-read now verb name read source a is reads due = record { due = rw is (by (named_job name files) reads) }
+    where
+      by : (o : Option (Result Job Stop)) → IfSome o (λ it. read ≡ it) → IfSome o (λ it. IsDueOfFile verb rest now source it a)
+      by None h = tt
+      by (Some it) h = rw (← h) due
+
+  -- the answer of what stopped the call at the options
+  pub due-stop : (now : Option (List ℕ)) (verb : Verb) (name : List ℕ) (it : Stop) → command_of words ≡ Some (verb, name) →
+      ReadsJob (named_job name files) (Err it) → it ≢ stop.Shelf → it ≢ stop.NoMemory → IsDue words files rest now false false (stopped it)
+  due-stop now verb name stop.Shelf is reads a b = absurd (a refl)
+  due-stop now verb name stop.NoMemory is reads a b = absurd (b refl)
+  due-stop now verb name stop.Words is reads a b = due-read now verb name (Err stop.Words) false _ is reads refl
+  due-stop now verb name stop.TooLong is reads a b = due-read now verb name (Err stop.TooLong) false _ is reads refl
+  due-stop now verb name (stop.Options refusal) is reads a b = due-read now verb name (Err (stop.Options refusal)) false _ is reads refl
 
   -- the answer of a job that was read
-  due-job : (now : Option (List ℕ)) (name : List ℕ) (job : Job) (source : Bool) (a : Answer) → file_of words ≡ Some name →
+  due-job : (now : Option (List ℕ)) (name : List ℕ) (job : Job) (source : Bool) (a : Answer) → command_of words ≡ Some (Run, name) →
       ReadsJob (named_job name files) (Ok job) → IsDueOfJob rest now source job a → IsDue words files rest now false source a
-  due-job now name job source a is reads due = record { due = rw is (by (named_job name files) reads) }
-    where
-      by : (o : Option (Result Job Stop)) → IfSome o (λ read. Ok job ≡ read) → IfSome o (λ read. IsDueOfFile rest now source read a)
-      by None h = tt
-      by (Some read) h = rw (← h) due
+  due-job now name job source a is reads due = due-read now Run name (Ok job) source a is reads due
+
+  pub due-check : (now : Option (List ℕ)) (name : List ℕ) (job : Job) → command_of words ≡ Some (Check, name) →
+      ReadsJob (named_job name files) (Ok job) → IsDue words files rest now false false (checked job)
+  due-check now name job is reads = due-read now Check name (Ok job) false (checked job) is reads refl
 
   -- something is always due of a file
-  pub some-due : (name : List ℕ) → file_of words ≡ Some name → (a : Answer) × IsDue words files rest rest false false a
-  some-due name is = by (named_job name files) refl
+  pub some-due : (verb : Verb) (name : List ℕ) → command_of words ≡ Some (verb, name) →
+      (a : Answer) × IsDue words files rest rest false false a
+  some-due verb name is = by (named_job name files) refl
     where
       nothing : Answer
       nothing = record { text = []; status = status.AllOk }
@@ -84,8 +90,12 @@ module _ (words : List (List ℕ)) (files : Option Files) (rest : Option (List �
       of-rest job None = (nothing, tt)
       of-rest job (Some text) = (run_answer job ReadToEnd (records_of job text), refl)
 
-      of-read : (read : Result Job Stop) → (a : Answer) × IsDueOfFile rest rest false read a
-      of-read (Ok job) = of-rest job rest
+      of-verb : (v : Verb) (job : Job) → (a : Answer) × IsDueOfVerb v rest rest false job a
+      of-verb Run job = of-rest job rest
+      of-verb Check job = (checked job, refl)
+
+      of-read : (read : Result Job Stop) → (a : Answer) × IsDueOfFile verb rest rest false read a
+      of-read (Ok job) = of-verb verb job
       of-read (Err it) = (stopped it, refl)
 
       by : (o : Option (Result Job Stop)) → named_job name files ≡ o → (a : Answer) × IsDue words files rest rest false false a
@@ -95,20 +105,23 @@ module _ (words : List (List ℕ)) (files : Option Files) (rest : Option (List �
   -- the line of what stopped the call may be written
   pub room-stop : (admits : List ℕ → Type 0) (front : (a b : List ℕ) → admits (a ++ b) → admits a)
       (room : (now : Option (List ℕ)) (shelf source : Bool) (a : Answer) → IsDue words files rest now shelf source a → admits a.text)
-      (name : List ℕ) (it : Stop) → file_of words ≡ Some name → (it ≡ stop.Words → ⊥) → ReadsJob (named_job name files) (Err it) →
-      admits (text_at it)
-  room-stop admits front room name stop.Words is other reads = absurd (other refl)
-  room-stop admits front room name stop.Shelf is other reads = room rest true false (stopped stop.Shelf) (due-shelf rest name false is)
-  room-stop admits front room name stop.NotBuilt is other reads =
-      room rest false false (stopped stop.NotBuilt) (due-stop rest name stop.NotBuilt is reads (λ e. cc) (λ e. cc))
-  room-stop admits front room name stop.NoMemory is other reads =
-      let it = some-due name is in
+      (verb : Verb) (name : List ℕ) (it : Stop) → command_of words ≡ Some (verb, name) → (it ≡ stop.Words → ⊥) →
+      ReadsJob (named_job name files) (Err it) → admits (text_at it)
+  room-stop admits front room verb name stop.Words is other reads = absurd (other refl)
+  room-stop admits front room verb name stop.Shelf is other reads =
+      room rest true false (stopped stop.Shelf) (due-shelf rest verb name false is)
+  room-stop admits front room verb name stop.TooLong is other reads =
+      room rest false false (stopped stop.TooLong) (due-stop rest verb name stop.TooLong is reads (λ e. cc) (λ e. cc))
+  room-stop admits front room verb name (stop.Options refusal) is other reads =
+      room rest false false (stopped (stop.Options refusal)) (due-stop rest verb name (stop.Options refusal) is reads (λ e. cc) (λ e. cc))
+  room-stop admits front room verb name stop.NoMemory is other reads =
+      let it = some-due verb name is in
       front [] it.0.text (room rest false false it.0 it.1)
 
   -- each text that the run may come to write is the text of an answer that may be due
   pub room-run : (admits : List ℕ → Type 0)
       (room : (now : Option (List ℕ)) (shelf source : Bool) (a : Answer) → IsDue words files rest now shelf source a → admits a.text)
-      (name : List ℕ) (job : Job) → file_of words ≡ Some name → ReadsJob (named_job name files) (Ok job) →
+      (name : List ℕ) (job : Job) → command_of words ≡ Some (Run, name) → ReadsJob (named_job name files) (Ok job) →
       (text : List ℕ) → MayWrite job false rest text → admits text
   room-run admits room name job is reads text (inl (t, all, e)) =
       rw e (room rest false false (run_answer job ReadToEnd (records_of job t)) (due-job rest name job false _ is reads (by rest all)))
@@ -136,6 +149,14 @@ module _ (words : List (List ℕ)) (files : Option Files) (rest : Option (List �
           room now.0 false true (run_answer job SourceFailed (so_far job t)) (due-job now.0 name job true _ is reads (t, now.1, none, refl))
       by (Some refusal) some =
           room rest false false (run_answer job SourceFailed (so_far job t)) (due-job rest name job false _ is reads (refused refusal some rest come))
+
+  -- so is each that the work of a verb may come to write
+  pub room-work : (admits : List ℕ → Type 0)
+      (room : (now : Option (List ℕ)) (shelf source : Bool) (a : Answer) → IsDue words files rest now shelf source a → admits a.text)
+      (verb : Verb) (name : List ℕ) (job : Job) → command_of words ≡ Some (verb, name) → ReadsJob (named_job name files) (Ok job) →
+      MayWork verb job rest admits
+  room-work admits room Run name job is reads = room-run admits room name job is reads
+  room-work admits room Check name job is reads = room rest false false (checked job) (due-check rest name job is reads)
 
 -- the answer of these records with this end
 abbrev answer-of : Job → List EventRecord → Last → Answer
@@ -186,7 +207,7 @@ text-longer job given later last refusal =
     ∙ append_assoc (reports job false (results job given)) (reports job false (results job later)) _
 
 module _ (words : List (List ℕ)) (files : Option Files) (rest now got got' : Option (List ℕ)) (f f' s s' k k' : ℕ) (name : List ℕ) (job : Job)
-    (is : file_of words ≡ Some name) (reads : ReadsJob (named_job name files) (Ok job)) (same : f' ≡ f) where
+    (is : command_of words ≡ Some (Run, name)) (reads : ReadsJob (named_job name files) (Ok job)) (same : f' ≡ f) where
   abbrev pub CalledSo : Status → Type 0
   CalledSo ended = Called words files rest now got got' f f' s s' k k' ended
 
@@ -301,73 +322,111 @@ module _ (words : List (List ℕ)) (files : Option Files) (rest now got got' : O
           (λ e. refl) wrote
 
 module _ (words : List (List ℕ)) (files : Option Files) (rest got got' : Option (List ℕ)) (f f' s k k' : ℕ) where
-  -- wrong words
-  pub called-words : (ended : Status) → file_of words ≡ None → f' ≡ f → (ended ≡ status.Words) ⊎ (ended ≡ status.Output) →
-      Wrote ended got got' k k' (stopped stop.Words) → Called words files rest rest got got' f f' s s k k' ended
-  called-words ended is calm which wrote = record {
-    shelf = false;
+  abbrev pub CalledHere : Status → Type 0
+  CalledHere ended = Called words files rest rest got got' f f' s s k k' ended
+
+  -- a call that ends with another status than that of its answer was broken off
+  wrote-other : (ended : Status) (a : Answer) → Wrote ended got got' k k' a → (other : Status) → ended ≡ other → (a.status ≡ other → ⊥) →
+      (status.Output ≡ other → ⊥) → (status.NoMemory ≡ other → ⊥) → ⊥
+  wrote-other status.Output a wrote other e never out memory = out e
+  wrote-other status.NoMemory a wrote other e never out memory = memory e
+  wrote-other status.AllOk a wrote other e never out memory = never (sym wrote.1 ∙ e)
+  wrote-other status.SomeNot a wrote other e never out memory = never (sym wrote.1 ∙ e)
+  wrote-other status.Words a wrote other e never out memory = never (sym wrote.1 ∙ e)
+  wrote-other status.Options a wrote other e never out memory = never (sym wrote.1 ∙ e)
+  wrote-other status.Record a wrote other e never out memory = never (sym wrote.1 ∙ e)
+  wrote-other status.Input a wrote other e never out memory = never (sym wrote.1 ∙ e)
+
+  -- the source wasn't called, and this answer was due
+  called-with : (ended : Status) (shelf : Bool) (a : Answer) → BearsOut shelf f f' → IsDue words files rest rest shelf false a →
+      Wrote ended got got' k k' a → (ended ≡ status.Input → shelf ≡ true) → CalledHere ended
+  called-with ended shelf a count due wrote input = record {
+    shelf = shelf;
     source = false;
-    shelf_count = calm;
+    shelf_count = count;
     source_count = refl;
-    answer = stopped stop.Words;
-    due = due-words words files rest rest is;
+    answer = a;
+    due = due;
     wrote = wrote;
-    input = λ e. absurd (by which e);
+    input = λ e. inl (input e);
   }
+
+  -- wrong words
+  pub called-words : (ended : Status) → command_of words ≡ None → f' ≡ f → (ended ≡ status.Words) ⊎ (ended ≡ status.Output) →
+      Wrote ended got got' k k' (stopped stop.Words) → CalledHere ended
+  called-words ended is calm which wrote =
+      called-with ended false (stopped stop.Words) calm (due-words words files rest rest is) wrote (λ e. absurd (by which e))
     where
       by : (ended ≡ status.Words) ⊎ (ended ≡ status.Output) → ended ≡ status.Input → ⊥
       by (inl a) e = let x = sym a ∙ e in cc
       by (inr a) e = let x = sym a ∙ e in cc
 
-  -- what stopped the call at the files
-  pub called-stop : (ended : Status) (name : List ℕ) (it : Stop) → file_of words ≡ Some name → (it ≡ stop.Words → ⊥) →
-      ReadsJob (named_job name files) (Err it) → CountsShelf (Err it) f f' → Wrote ended got got' k k' (stopped it) →
-      (ended ≡ status_at it) ⊎ (ended ≡ status.Output) → Called words files rest rest got got' f f' s s k k' ended
-  called-stop ended name stop.Words is other reads count wrote which = absurd (other refl)
-  called-stop ended name stop.Shelf is other reads count wrote which = record {
-    shelf = true;
-    source = false;
-    shelf_count = count;
-    source_count = refl;
-    answer = stopped stop.Shelf;
-    due = due-shelf words files rest rest name false is;
-    wrote = wrote;
-    input = λ e. inl refl;
-  }
-  called-stop ended name stop.NotBuilt is other reads count wrote which = record {
-    shelf = false;
-    source = false;
-    shelf_count = count;
-    source_count = refl;
-    answer = stopped stop.NotBuilt;
-    due = due-stop words files rest rest name stop.NotBuilt is reads (λ e. cc) (λ e. cc);
-    wrote = wrote;
-    input = λ e. absurd (by which e);
-  }
-    where
-      by : (ended ≡ status.Options) ⊎ (ended ≡ status.Output) → ended ≡ status.Input → ⊥
-      by (inl a) e = let x = sym a ∙ e in cc
-      by (inr a) e = let x = sym a ∙ e in cc
-  called-stop ended name stop.NoMemory is other reads count wrote which = by which
+  -- what `check` says of a job
+  pub called-check : (ended : Status) (name : List ℕ) (job : Job) → command_of words ≡ Some (Check, name) →
+      ReadsJob (named_job name files) (Ok job) → f' ≡ f → Wrote ended got got' k k' (checked job) → CalledHere ended
+  called-check ended name job is reads calm wrote =
+      called-with ended false (checked job) calm (due-check words files rest rest name job is reads) wrote
+      (λ e. absurd (wrote-other ended (checked job) wrote status.Input e (λ x. cc) (λ x. cc) (λ x. cc)))
+
+  called-refused : (ended : Status) (verb : Verb) (name : List ℕ) (it : Stop) → command_of words ≡ Some (verb, name) → it ≢ stop.Shelf →
+      it ≢ stop.NoMemory → ReadsJob (named_job name files) (Err it) → f' ≡ f → Wrote ended got got' k k' (stopped it) →
+      (status_at it ≡ status.Input → ⊥) → CalledHere ended
+  called-refused ended verb name it is a b reads calm wrote other =
+      called-with ended false (stopped it) calm (due-stop words files rest rest verb name it is reads a b) wrote
+      (λ e. absurd (wrote-other ended (stopped it) wrote status.Input e other (λ x. cc) (λ x. cc)))
+
+  -- what stopped the call at the files or the options
+  pub called-stop : (ended : Status) (verb : Verb) (name : List ℕ) (it : Stop) → command_of words ≡ Some (verb, name) →
+      (it ≡ stop.Words → ⊥) → ReadsJob (named_job name files) (Err it) → CountsShelf (Err it) f f' → Wrote ended got got' k k' (stopped it) →
+      IsOneOf ended (status_at it) → CalledHere ended
+  called-stop ended verb name stop.Words is other reads count wrote which = absurd (other refl)
+  called-stop ended verb name stop.Shelf is other reads count wrote which =
+      called-with ended true (stopped stop.Shelf) count (due-shelf words files rest rest verb name false is) wrote (λ e. refl)
+  called-stop ended verb name stop.TooLong is other reads count wrote which =
+      called-refused ended verb name stop.TooLong is (λ e. cc) (λ e. cc) reads count wrote (λ e. cc)
+  called-stop ended verb name (stop.Options refusal) is other reads count wrote which =
+      called-refused ended verb name (stop.Options refusal) is (λ e. cc) (λ e. cc) reads count wrote (λ e. cc)
+  called-stop ended verb name stop.NoMemory is other reads count wrote which = by which
     where
       it : (a : Answer) × IsDue words files rest rest false false a
-      it = some-due words files rest name is
+      it = some-due words files rest verb name is
 
       prefix : (now : Option (List ℕ)) → AppendsPrefix got now [] → AppendsPrefix got now it.0.text
       prefix now p = longer got now [] it.0.text it.0.text p refl
 
-      moved : (w : Status) → w ≡ ended → (w ≡ status.Input → ⊥) → Wrote w got got' k k' it.0 → Called words files rest rest got got' f f' s s k k' ended
-      moved w e not_input wrote = record {
-        shelf = false;
-        source = false;
-        shelf_count = count;
-        source_count = refl;
-        answer = it.0;
-        due = it.1;
-        wrote = rw (← e) wrote;
-        input = λ x. absurd (not_input (e ∙ x));
-      }
+      moved : (w : Status) → w ≡ ended → (w ≡ status.Input → ⊥) → Wrote w got got' k k' it.0 → CalledHere ended
+      moved w e not_input wrote = called-with ended false it.0 count it.1 (rw (← e) wrote) (λ x. absurd (not_input (e ∙ x)))
 
-      by : (ended ≡ status.NoMemory) ⊎ (ended ≡ status.Output) → Called words files rest rest got got' f f' s s k k' ended
-      by (inl e) = let w = rw e at wrote in moved status.NoMemory (sym e) (λ x. cc) (prefix got' w.0, w.1)
-      by (inr e) = let w = rw e at wrote in moved status.Output (sym e) (λ x. cc) (prefix got' w.0, w.1)
+      broken : (ended ≡ status.NoMemory) → CalledHere ended
+      broken e = let w = rw e at wrote in moved status.NoMemory (sym e) (λ x. cc) (prefix got' w.0, w.1)
+
+      by : IsOneOf ended status.NoMemory → CalledHere ended
+      by (inl e) = broken e
+      by (inr (inl e)) = let w = rw e at wrote in moved status.Output (sym e) (λ x. cc) (prefix got' w.0, w.1)
+      by (inr (inr e)) = broken e
+
+-- what came of a job, by what its verb says
+pub called-work : (words : List (List ℕ)) (files : Option Files) (rest now got got' : Option (List ℕ)) (f f' s s' k k' : ℕ) (verb : Verb)
+    (name : List ℕ) (job : Job) → command_of words ≡ Some (verb, name) → ReadsJob (named_job name files) (Ok job) → f' ≡ f → (ended : Status) →
+    WorksTo verb job rest now got got' s s' k k' ended → Called words files rest now got got' f f' s s' k k' ended
+called-work words files rest now got got' f f' s s' k k' Run name job is reads same ended ran =
+    called-run words files rest now got got' f f' s s' k k' name job is reads same ended ran
+called-work words files rest now got got' f f' s s' k k' Check name job is reads same ended (wrote, kept, calm) =
+    rw (kept, calm) (called-check words files rest got got' f f' s k k' ended name job is reads same wrote)
+
+-- the run of a job doesn't end as wrong words do
+
+no-words : (t : Bool) → status.Words ≡ (if t then status.AllOk else status.SomeNot) → ⊥
+no-words true e = cc
+no-words false e = cc
+
+never-words : (job : Job) (given : List EventRecord) (end : Last) → status.Words ≡ status_of (results job given) end → ⊥
+never-words job given ReadToEnd e = no-words (nat_eq (tally is_ok (results job given)) (length (results job given))) e
+never-words job given (RefusedAt refusal) e = cc
+never-words job given SourceFailed e = cc
+
+pub ran-words : (job : Job) (rest now got got' : Option (List ℕ)) (s s' k k' : ℕ) (ended : Status) →
+    RunsTo job rest now got got' s s' k k' ended → ended ≡ status.Words → ⊥
+ran-words job rest now got got' s s' k k' ended ran e =
+    let wrote = rw e at ran.wrote in
+    never-words job ran.given wrote.0 wrote.2

@@ -6,3 +6,5 @@ pub mod Calls
 pub mod Jobs
 -- the run of a job, by its run and its last flush
 pub mod Runs
+-- pieces of a line
+pub mod Joined

@@ -7,17 +7,21 @@ use Rattle.hive_edge.specs.Shelf.{Files, text_of as text_named}
 use Rattle.hive_model.specs.EventResult.{EventResult}
 use Rattle.hive_model.specs.Job.{Job}
 use Rattle.hive_pump.specs.Written.{results, text_of}
+use Rattle.job_options.specs.Known.{known_language}
+use Rattle.text_model.specs.Jobs.{job_of}
 use Rattle.text_model.specs.Records.{Known, records_of, so_far}
-use Rattle.text_model.specs.Steps.{or_refuse}
+use Rattle.text_model.specs.Steps.{map_err}
 use Rattle.text_model.specs.Whole.{Ending, ReadToEnd, RefusedAt, SourceFailed, is_ok, tally}
 use Rattle.text_model.specs.declared.limits.TheConstants.{MOST_OPTIONS_BYTES}
-use Rattle.thin_texts.specs.ThinTree.{thin_job}
+use Rattle.hive_top.specs.JobLine.{job_line}
 use Rattle.hive_top.specs.Stopped.{status_at, text_at}
-use Rattle.hive_top.specs.Words.{file_of}
+use Rattle.hive_top.specs.Words.{command_of}
 use Rattle.hive_top.specs.declared.status.Status.{Status}
 use Rattle.hive_top.specs.declared.status.Status.TheVariants as status
 use Rattle.hive_top.specs.declared.stop.Stop.{Stop}
 use Rattle.hive_top.specs.declared.stop.Stop.TheVariants as stop
+use Rattle.hive_top.specs.declared.words.Verb.{Verb}
+use Rattle.hive_top.specs.declared.words.Verb.TheVariants.{Run, Check}
 
 pub record Answer : Type 0 where
   pub text : List ℕ
@@ -28,7 +32,8 @@ stopped it = record { text = text_at it; status = status_at it }
 
 -- the job of an options text, or what stops the call
 unfoldable pub file_job : List ℕ → Result Job Stop
-file_job text = if nat_le (length text) MOST_OPTIONS_BYTES then or_refuse stop.NotBuilt (thin_job text) else Err stop.NotBuilt
+file_job text =
+    if nat_le (length text) MOST_OPTIONS_BYTES then map_err stop.Options (job_of known_language text) else Err stop.TooLong
 
 -- that of a file's name, where the files are told; a name that isn't there is a failure
 abbrev pub named_job : List ℕ → Option Files → Option (Result Job Stop)
@@ -53,17 +58,29 @@ IsDueOfJob rest now false job a = IfSome rest (λ text. a ≡ run_answer job Rea
 IsDueOfJob rest now true job a =
     (text : List ℕ) × Consumes rest now text × ((so_far job text).refusal ≡ None) × (a ≡ run_answer job SourceFailed (so_far job text))
 
-abbrev pub IsDueOfFile : Option (List ℕ) → Option (List ℕ) → Bool → Result Job Stop → Answer → Type 0
-IsDueOfFile rest now source (Ok job) a = IsDueOfJob rest now source job a
-IsDueOfFile rest now source (Err it) a = a ≡ stopped it
+-- what `check` says of a job that was read
+abbrev pub checked : Job → Answer
+checked job = record { text = job_line job; status = status.AllOk }
 
-abbrev pub IsDueOfName : List ℕ → Option Files → Option (List ℕ) → Option (List ℕ) → Bool → Bool → Answer → Type 0
-IsDueOfName name files rest now true source a = a ≡ stopped stop.Shelf
-IsDueOfName name files rest now false source a = IfSome (named_job name files) (λ read. IsDueOfFile rest now source read a)
+abbrev pub IsDueOfVerb : Verb → Option (List ℕ) → Option (List ℕ) → Bool → Job → Answer → Type 0
+IsDueOfVerb Run rest now source job a = IsDueOfJob rest now source job a
+IsDueOfVerb Check rest now source job a = a ≡ checked job
+
+abbrev pub IsDueOfFile : Verb → Option (List ℕ) → Option (List ℕ) → Bool → Result Job Stop → Answer → Type 0
+IsDueOfFile verb rest now source (Ok job) a = IsDueOfVerb verb rest now source job a
+IsDueOfFile verb rest now source (Err it) a = a ≡ stopped it
+
+abbrev pub IsDueOfName :
+    Verb → List ℕ → Option Files → Option (List ℕ) → Option (List ℕ) → Bool → Bool → Answer → Type 0
+IsDueOfName verb name files rest now true source a = a ≡ stopped stop.Shelf
+IsDueOfName verb name files rest now false source a =
+    IfSome (named_job name files) (λ read. IsDueOfFile verb rest now source read a)
 
 -- The answer that is due, where this is true of files and source. What isn't told leaves it open.
-pub record IsDue (words : List (List ℕ)) (files : Option Files) (rest now : Option (List ℕ)) (shelf source : Bool) (a : Answer) : Type 0 where
-  pub due : MatchOption (file_of words) (a ≡ stopped stop.Words) (λ name. IsDueOfName name files rest now shelf source a)
+pub record IsDue (words : List (List ℕ)) (files : Option Files) (rest now : Option (List ℕ)) (shelf source : Bool)
+    (a : Answer) : Type 0 where
+  pub due : MatchOption (command_of words) (a ≡ stopped stop.Words)
+      (λ it. IsDueOfName it.0 it.1 files rest now shelf source a)
 
 -- the count rose between two moments
 abbrev pub rose : ℕ → ℕ → Bool

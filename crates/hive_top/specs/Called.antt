@@ -7,11 +7,12 @@ use Rattle.hive_edge.specs.Shelf.{Files}
 use Rattle.hive_model.specs.Job.{Job}
 use Rattle.hive_pump.specs.Written.{AppendsPrefix}
 use Rattle.hive_top.specs.Answer.{Answer, IsDue, named_job}
-use Rattle.hive_top.specs.Words.{file_of}
+use Rattle.hive_top.specs.Words.{command_of}
 use Rattle.hive_top.specs.declared.status.Status.{Status}
 use Rattle.hive_top.specs.declared.status.Status.TheVariants as status
 use Rattle.hive_top.specs.declared.stop.Stop.{Stop}
 use Rattle.hive_top.specs.declared.stop.Stop.TheVariants as stop
+use Rattle.hive_top.specs.declared.words.Verb.TheVariants.{Run}
 
 -- a failure with a risen count, or none with the count as before
 abbrev pub BearsOut : Bool → ℕ → ℕ → Type 0
@@ -45,17 +46,17 @@ abbrev pub CountsShelf : Result Job Stop → ℕ → ℕ → Type 0
 CountsShelf (Err stop.Shelf) before now = Rose before now
 CountsShelf read before now = now ≡ before
 
--- The source is called only after FILE was fetched and, where FILE is told, read to a job.
+-- The source is called only for `run`, after FILE was fetched and, where FILE is told, read to a job.
 pub record MayRead (words : List (List ℕ)) (files : Option Files) (shelf_before shelf_now : ℕ) : Type 0 where
   pub name : List ℕ
-  pub run : file_of words ≡ Some name
+  pub run : command_of words ≡ Some (Run, name)
   pub fetched : shelf_now ≡ shelf_before
   pub read : IfSome (named_job name files) (λ it. IsOk it)
 
--- what reading a text can come to: a job, options that aren't thin, or memory that ran out
+-- what reading a text can come to: a job, options that are refused, or memory that ran out
 abbrev pub IsOfText : Result Job Stop → Type 0
 IsOfText (Ok job) = Unit {0}
-IsOfText (Err stop.NotBuilt) = Unit {0}
+IsOfText (Err (stop.Options refusal)) = Unit {0}
 IsOfText (Err stop.NoMemory) = Unit {0}
 IsOfText (Err other) = ⊥
 

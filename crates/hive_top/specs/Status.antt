@@ -1,5 +1,5 @@
 -- The exit status of the process for each way in which a call ends.
-use Rattle.std.specs.Prelude.{ℕ}
+use Rattle.std.specs.Prelude.{◌≡◌, ◌⊎◌, ℕ}
 use Rattle.hive_top.specs.declared.status.Status.{Status}
 use Rattle.hive_top.specs.declared.status.Status.TheVariants.{AllOk, SomeNot, Words, NoMemory, Options, Record, Input, Output}
 
@@ -13,13 +13,12 @@ code_of Record = 5
 code_of Input = 6
 code_of Output = 7
 
--- a status that the files, the options, the source or the records bring about
-abbrev pub IsFound : Status → Type 0
-IsFound AllOk = Unit {0}
-IsFound SomeNot = Unit {0}
-IsFound Words = ⊥
-IsFound NoMemory = ⊥
-IsFound Options = Unit {0}
-IsFound Record = Unit {0}
-IsFound Input = Unit {0}
-IsFound Output = ⊥
+-- a status with which a call ends that wrote its whole text
+abbrev pub IsWhole : Status → Type 0
+IsWhole NoMemory = ⊥
+IsWhole Output = ⊥
+IsWhole other = Unit {0}
+
+-- the status meant, or that of a call that was broken off
+abbrev pub IsOneOf : Status → Status → Type 0
+IsOneOf ended meant = (ended ≡ meant) ⊎ (ended ≡ Output) ⊎ (ended ≡ NoMemory)

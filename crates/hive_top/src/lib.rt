@@ -6,6 +6,7 @@
 #![tactic(auto)]
 
 mod job;
+mod job_line;
 mod run;
 mod status;
 mod stop;

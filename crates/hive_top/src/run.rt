@@ -2,7 +2,7 @@
 ghost use Rattle.std.specs.Prelude.{◌≡◌, ℕ, List, false};
 ghost use Rattle.std.specs.Io.KnownBytes.{Keeps};
 ghost use Rattle.hive_edge.specs.Fault.{Rose};
-ghost use Rattle.hive_model.specs.Runnable.{IsRunnable};
+ghost use Rattle.hive_model.specs.Valid.{IsValidJob};
 ghost use Rattle.hive_pump.specs.Written.{MayWrite};
 ghost use Rattle.hive_top.specs.RunsTo.{Flushes, RunsTo, status_by};
 
@@ -23,7 +23,7 @@ const PLAN: Plan = Plan {
 
 /// Runs a job on the records of the source, and flushes the sink where nothing broke the run off.
 pub fn run<S: Source, K: Sink>(alloc: Global, job: Job, source: &mut S, sink: &mut K) -> Status
-    requires runnable { IsRunnable job }
+    requires valid { IsValidJob job }
     requires room { (text : List ℕ) → MayWrite job false (S.rest source.old) text → K.admits sink.old text }
     ensures { RunsTo job (S.rest source.old) (S.rest source.new) (K.got sink.old) (K.got sink.new)
         (S.faults source.old) (S.faults source.new) (K.faults sink.old) (K.faults sink.new) result }

@@ -1,54 +1,38 @@
 //! What keeps a call from running a job.
 ghost use Rattle.std.specs.Prelude.{◌≡◌};
-ghost use Rattle.hive_top.specs.Stopped.{status_at, text_at};
-ghost use Rattle.hive_top.specs.declared.stop.Stop.TheVariants.{NoMemory};
+ghost use Rattle.hive_top.specs.Stopped.{stop_at};
 
-use crate::status::Status;
-use std::alloc::AllocError;
+use text_model::JobRefusal;
 
-/// What keeps a call from running a job. Each has a text and a status (docs/FORMATS.md, "Stop lines").
-#[derive(Clone, Copy, Debug, PartialEq, Eq)]
+/// What keeps a call from doing its work. Each has a text and a status (docs/FORMATS.md, "Stop lines").
+#[derive(Debug, PartialEq, Eq, Drop)]
 pub enum Stop {
     /// The words are in no written form.
     Words,
     /// The files failed.
     Shelf,
-    /// The options aren't thin.
-    NotBuilt,
+    /// The options text is over its limit.
+    TooLong,
+    /// The options text is refused.
+    Options(JobRefusal),
     /// Memory ran out, which is told by the status alone.
     NoMemory,
 }
 
-impl From<AllocError> for Stop {
-    ghost from_gives = { λ _ e. e ≡ NoMemory };
-
-    fn from(_error: AllocError) -> Self {
-        Stop::NoMemory
-    }
-}
-
-impl Stop {
-    /// The stop line, which takes no memory.
-    pub fn text(&self) -> &'static [u8]
-        ensures { result.now ≡ text_at self.now }
-    {
-        match self {
-            Stop::Words => b"stop words\n",
-            Stop::Shelf => b"stop shelf\n",
-            Stop::NotBuilt => b"stop options NotBuilt\n",
-            Stop::NoMemory => b"",
+/// What stops a call where no job could be built.
+pub fn stop_of(refusal: JobRefusal) -> Stop
+    ensures { result ≡ stop_at refusal }
+{
+    match refusal {
+        JobRefusal::Options(refusal) => Stop::Options(JobRefusal::Options(refusal)),
+        JobRefusal::Repeat { path } => Stop::Options(JobRefusal::Repeat { path }),
+        JobRefusal::UnknownResource { path } => {
+            Stop::Options(JobRefusal::UnknownResource { path })
         }
-    }
-
-    /// The status of a call that stops here.
-    pub fn status(&self) -> Status
-        ensures { result ≡ status_at self.now }
-    {
-        match self {
-            Stop::Words => Status::Words,
-            Stop::Shelf => Status::Input,
-            Stop::NotBuilt => Status::Options,
-            Stop::NoMemory => Status::NoMemory,
-        }
+        JobRefusal::Graph(refusal) => Stop::Options(JobRefusal::Graph(refusal)),
+        JobRefusal::Expr { path, cause } => Stop::Options(JobRefusal::Expr { path, cause }),
+        JobRefusal::Tree(refusal) => Stop::Options(JobRefusal::Tree(refusal)),
+        JobRefusal::Cut(refusal) => Stop::Options(JobRefusal::Cut(refusal)),
+        JobRefusal::NoMemory => Stop::NoMemory,
     }
 }

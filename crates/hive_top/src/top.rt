@@ -1,20 +1,29 @@
 //! The top call.
-ghost use Rattle.std.specs.Prelude.{◌≡◌, ◌≢◌, ◌⊎◌, Bool, None, Option, Some, [], List, ℕ};
+ghost use Rattle.std.specs.Prelude.{◌≡◌, ◌≢◌, ◌⊎◌, ◌^◌, ◌<◌, Bool, None, Option, Some, [], List, ℕ};
 ghost use Rattle.hive_edge.specs.Fault.{Calm, Rose};
+ghost use Rattle.hive_model.specs.Handles.{handle_count};
 ghost use Rattle.hive_model.specs.Same.{texts};
-ghost use Rattle.hive_top.specs.Answer.{Answer, CanRise, IsDue, rose, stopped};
+ghost use Rattle.hive_model.specs.Valid.{IsValidJob};
+ghost use Rattle.text_model.specs.Stops.{stop_options};
+ghost use Rattle.hive_top.specs.Answer.{Answer, CanRise, IsDue, checked, rose, stopped};
 ghost use Rattle.hive_top.specs.Called.{Called, IsAnswered, IsBrokenOff, MayRead, Wrote};
+ghost use Rattle.hive_top.specs.JobLine.{job_line};
+ghost use Rattle.hive_top.specs.Status.{IsOneOf, IsWhole};
 ghost use Rattle.hive_top.specs.Stopped.{status_at, text_at};
-ghost use Rattle.hive_top.specs.Words.{file_of};
+ghost use Rattle.hive_top.specs.Words.{command_of};
+ghost use Rattle.hive_top.specs.Works.{MayWork, WorksTo};
 
 use crate::job::job_named;
+use crate::job_line::push_job_line;
 use crate::run::{flush, run};
 use crate::status::Status;
 use crate::stop::Stop;
-use crate::words::file_name;
+use crate::words::{Verb, command};
 use hive_edge::{Shelf, Sink, Source, send};
-use hive_model::{Entry, Many};
+use hive_model::{Entry, Job, Many};
+use report_text::push_stop_options;
 use std::alloc::Global;
+use text_model::JobRefusal;
 
 /// What a call of the program came to.
 #[derive(Drop)]
@@ -27,10 +36,11 @@ pub struct Ran {
 
 /// Runs the words of a command line over the files, the source and the sink.
 ///
-/// The one written form is `run FILE`: it reads the options in FILE from `shelf`, and then record after record from
-/// `source`; each event is evaluated by itself, and its report written to `sink` at once (docs/FORMATS.md). The
-/// trace isn't called. The causes of a status stand in the order words, shelf, options, and then the input; a
-/// failure of the sink counts before all of them.
+/// The written forms are `run FILE` and `check FILE` (docs/FORMATS.md, "Words"). Both read the options in FILE from
+/// `shelf`. `check` then writes how many algorithms, sequences and handles the job has. `run` reads record after
+/// record from `source`; each event is evaluated by itself, and its report written to `sink` at once. The trace isn't
+/// called. The causes of a status stand in the order words, shelf, options, and then the input; a failure of the sink
+/// counts before all of them.
 ///
 /// The text that is due is told by `IsDue`, of the words and of what the files and the source tell, where a count of
 /// failures that rose counts before that: where memory sufficed and no count stands at its last value, the sink got
@@ -43,7 +53,7 @@ pub fn hive_plain<F: Shelf, S: Source, K: Sink, T: Sink>(
     sink: &mut K,
     trace: &mut T,
 ) -> Ran
-    requires files { (name : List ℕ) → file_of (texts words.now) ≡ Some name → F.has shelf.old name }
+    requires files { (verb : Verb) (name : List ℕ) → command_of (texts words.now) ≡ Some (verb, name) → F.has shelf.old name }
     requires room { (rest : Option (List ℕ)) (shelf_failed source_failed : Bool) (a : Answer)
         → IsDue (texts words.now) (F.files shelf.old) (S.rest source.old) rest shelf_failed source_failed a
         → K.admits sink.old a.text }
@@ -62,11 +72,11 @@ pub fn hive_plain<F: Shelf, S: Source, K: Sink, T: Sink>(
         (K.got sink.old) (K.got sink.new) }
 
     // The causes of the statuses.
-    ensures words { result.status ≡ Status.Words → file_of (texts words.now) ≡ None }
-    ensures wrong_words { file_of (texts words.now) ≡ None
+    ensures words { result.status ≡ Status.Words → command_of (texts words.now) ≡ None }
+    ensures wrong_words { command_of (texts words.now) ≡ None
         → (result.status ≡ Status.Words) ⊎ (result.status ≡ Status.Output) }
     // Wrong words don't touch the files.
-    ensures untouched_files { file_of (texts words.now) ≡ None → shelf.new ≡ shelf.old }
+    ensures untouched_files { command_of (texts words.now) ≡ None → shelf.new ≡ shelf.old }
     // The source is touched only where a job was read.
     ensures untouched_source { (source.new ≡ source.old)
         ⊎ MayRead (texts words.now) (F.files shelf.old) (F.faults shelf.old) (F.faults shelf.new) }
@@ -93,37 +103,102 @@ fn call<F: Shelf, S: Source, K: Sink>(
     source: &mut S,
     sink: &mut K,
 ) -> Status
-    requires files { (name : List ℕ) → file_of (texts words.now) ≡ Some name → F.has shelf.old name }
+    requires files { (verb : Verb) (name : List ℕ) → command_of (texts words.now) ≡ Some (verb, name) → F.has shelf.old name }
     requires room { (rest : Option (List ℕ)) (shelf_failed source_failed : Bool) (a : Answer)
         → IsDue (texts words.now) (F.files shelf.old) (S.rest source.old) rest shelf_failed source_failed a
         → K.admits sink.old a.text }
     ensures called { Called (texts words.now) (F.files shelf.old) (S.rest source.old) (S.rest source.new)
         (K.got sink.old) (K.got sink.new) (F.faults shelf.old) (F.faults shelf.new)
         (S.faults source.old) (S.faults source.new) (K.faults sink.old) (K.faults sink.new) result }
-    ensures words { result ≡ Status.Words → file_of (texts words.now) ≡ None }
-    ensures wrong_words { file_of (texts words.now) ≡ None
+    ensures words { result ≡ Status.Words → command_of (texts words.now) ≡ None }
+    ensures wrong_words { command_of (texts words.now) ≡ None
         → (result ≡ Status.Words) ⊎ (result ≡ Status.Output) }
-    ensures untouched_files { file_of (texts words.now) ≡ None → shelf.new ≡ shelf.old }
+    ensures untouched_files { command_of (texts words.now) ≡ None → shelf.new ≡ shelf.old }
     ensures untouched_source { (source.new ≡ source.old)
         ⊎ MayRead (texts words.now) (F.files shelf.old) (F.faults shelf.old) (F.faults shelf.new) }
 {
-    let Some(name) = file_name(words) else {
-        return put(sink, Stop::Words);
+    let Some((verb, name)) = command(words) else {
+        return put_line(sink, b"stop words\n", Status::Words);
     };
     match job_named(alloc, name, shelf) {
-        Ok(job) => run(alloc, job, source, sink),
-        Err(stop) => put(sink, stop),
+        Ok(job) => work(alloc, verb, job, source, sink),
+        Err(stop) => put(alloc, sink, &stop),
+    }
+}
+
+// Does with a job what the verb says.
+fn work<S: Source, K: Sink>(
+    alloc: Global,
+    verb: Verb,
+    job: Job,
+    source: &mut S,
+    sink: &mut K,
+) -> Status
+    requires valid { IsValidJob job }
+    requires room { MayWork verb job (S.rest source.old) (K.admits sink.old) }
+    ensures worked { WorksTo verb job (S.rest source.old) (S.rest source.new) (K.got sink.old) (K.got sink.new)
+        (S.faults source.old) (S.faults source.new) (K.faults sink.old) (K.faults sink.new) result }
+    ensures untouched { verb ≡ Verb.Check → source.new ≡ source.old }
+    ensures words { result ≢ Status.Words }
+{
+    match verb {
+        Verb::Run => run(alloc, job, source, sink),
+        Verb::Check => put_job(alloc, sink, &job),
     }
 }
 
 // Writes the line of what stopped the call, and gives the status that goes with it, or that of a failure of the sink.
-fn put<K: Sink>(sink: &mut K, stop: Stop) -> Status
-    requires { K.admits sink.old (text_at stop) }
-    ensures wrote { Wrote result (K.got sink.old) (K.got sink.new) (K.faults sink.old) (K.faults sink.new) (stopped stop) }
-    ensures status { (result ≡ status_at stop) ⊎ (result ≡ Status.Output) }
+fn put<K: Sink>(alloc: Global, sink: &mut K, stop: &Stop) -> Status
+    requires { K.admits sink.old (text_at stop.now) }
+    ensures wrote { Wrote result (K.got sink.old) (K.got sink.new) (K.faults sink.old) (K.faults sink.new) (stopped stop.now) }
+    ensures status { IsOneOf result (status_at stop.now) }
 {
-    match send(sink, stop.text()) {
-        Ok(()) => flush(sink, stop.status()),
+    match stop {
+        Stop::Words => put_line(sink, b"stop words\n", Status::Words),
+        Stop::Shelf => put_line(sink, b"stop shelf\n", Status::Input),
+        Stop::TooLong => put_line(sink, b"stop options TooLong\n", Status::Options),
+        Stop::Options(refusal) => put_refusal(alloc, sink, refusal),
+        Stop::NoMemory => Status::NoMemory,
+    }
+}
+
+fn put_refusal<K: Sink>(alloc: Global, sink: &mut K, refusal: &JobRefusal) -> Status
+    requires { K.admits sink.old (stop_options refusal.now) }
+    ensures wrote { Wrote result (K.got sink.old) (K.got sink.new) (K.faults sink.old) (K.faults sink.new)
+        (stopped (Stop.Options refusal.now)) }
+    ensures status { IsOneOf result Status.Options }
+{
+    let mut line = Vec::new(alloc);
+    match push_stop_options(&mut line, refusal) {
+        Ok(()) => put_line(sink, line.as_slice(), Status::Options),
+        Err(_) => Status::NoMemory,
+    }
+}
+
+// What `check` says of a job.
+fn put_job<K: Sink>(alloc: Global, sink: &mut K, job: &Job) -> Status
+    requires few { handle_count job.now < 2 ^ 16 }
+    requires room { K.admits sink.old (job_line job.now) }
+    ensures wrote { Wrote result (K.got sink.old) (K.got sink.new) (K.faults sink.old) (K.faults sink.new) (checked job.now) }
+    ensures status { IsOneOf result Status.AllOk }
+{
+    let mut line = Vec::new(alloc);
+    match push_job_line(&mut line, job) {
+        Ok(()) => put_line(sink, line.as_slice(), Status::AllOk),
+        Err(_) => Status::NoMemory,
+    }
+}
+
+// Writes a line, and gives the status that goes with it, or that of a failure of the sink.
+fn put_line<K: Sink>(sink: &mut K, line: &[u8], status: Status) -> Status
+    requires whole { IsWhole status }
+    requires room { K.admits sink.old line.now }
+    ensures wrote { Wrote result (K.got sink.old) (K.got sink.new) (K.faults sink.old) (K.faults sink.new)
+        (record { text = line.now; status = status }) }
+    ensures kept { (result ≡ status) ⊎ (result ≡ Status.Output) }
+{
+    match send(sink, line) {
+        Ok(()) => flush(sink, status),
         Err(_) => Status::Output,
     }
 }

@@ -10,23 +10,33 @@
 mod case;
 mod run;
 
-ghost use Rattle.std.specs.Prelude.{◌<◌};
+ghost use Rattle.std.specs.Prelude.{◌<◌, IfOk, IfSome};
 ghost use Rattle.std.specs.Arc.{arc_value};
 ghost use Rattle.hive_model.specs.Runnable.{IsRunnable};
 
 use anyhow::bail;
 use case::{Case, case_of};
 use hive_model::Job;
+use job_build::build;
 use run::pumped;
+use std::alloc::{AllocError, Global};
 use std::fs;
 use std::sync::Arc;
-use thin_texts::read_job;
 
 fn main(rt: HostRuntime) -> anyhow::Result<()> {
     let options = fs::read(&rt, "sum_then_cut.toml")?;
-    match read_job(rt.alloc(), options.as_slice())? {
-        Some(job) => print_rows(&rt, &Arc::new(rt.alloc(), job)?),
-        None => bail!("the options aren't thin"),
+    match job_of(rt.alloc(), options.as_slice())? {
+        Some(job) => print_rows(&rt, &job),
+        None => bail!("the options are refused"),
+    }
+}
+
+fn job_of(alloc: Global, options: &[u8]) -> Result<Option<Arc<Job>>, AllocError>
+    ensures { IfOk result (λ o. IfSome o (λ it. IsRunnable (arc_value it))) }
+{
+    match build(alloc, options) {
+        Ok(job) => Ok(Some(Arc::new(alloc, job)?)),
+        Err(_) => Ok(None),
     }
 }
 

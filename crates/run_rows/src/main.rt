@@ -2,7 +2,8 @@
 //! file, its records, and the calls of the outside that fail; what is printed is the status and what the sink got.
 //! `stdout` holds what docs/FORMATS.md says.
 //!
-//! A row has eight parts with `|` between: the words; the file of data/ that the shelf has as `job`; the records, with
+//! A row has eight parts with `|` between: the words; what the shelf has as `job`, a file of data/ or so many empty
+//! lines; the records, with
 //! `\n` for a line feed; how many bytes the source gives in one call; how many the sink takes in one call; and the
 //! numbers of the calls of shelf, source and sink that fail.
 #![tactic(auto)]
@@ -63,8 +64,16 @@ fn print_case(rt: &HostRuntime, case: &Case<'_>) -> anyhow::Result<()>
     requires piece { 0 < case.now.piece }
     requires takes { 0 < case.now.takes }
 {
-    let options = fs::read(rt, case.file)?;
+    let options = options_of(rt, case.file)?;
     let (status, text) = written(rt.alloc(), case, options)?;
     println!(rt; "{status} {text:?}")?;
     Ok(())
+}
+
+// The options of a row: a file of data/, or so many empty lines.
+fn options_of(rt: &HostRuntime, file: &str) -> anyhow::Result<Vec<u8>> {
+    match file.parse::<usize>() {
+        Ok(lines) => Ok(vec![in rt.alloc(); b'\n'; lines]?),
+        Err(_) => Ok(fs::read(rt, file)?),
+    }
 }

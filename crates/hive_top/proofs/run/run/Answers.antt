@@ -1,8 +1,12 @@
+use Rattle.event_laws.proofs.Validity.{valid-runnable}
 use Rattle.hive_top.proofs.Runs.{run-of, unread}
 use Rattle.hive_top.proofs.run.run.Goals as goal
 
 pub returns-in_default : goal.returns-in_default
 returns-in_default g c = unread c.args.job (g.S.Source.rest c.args.source.now) (g.K.Sink.got c.args.sink.now) _ _
+
+pub pump_plain-pumped-requires-clause-runnable : goal.pump_plain-pumped-requires-clause-runnable
+pump_plain-pumped-requires-clause-runnable g c = rw c.in-Ok.ensures.ok (valid-runnable c.args.job c.requires.valid)
 
 pub pump_plain-pumped-requires-clause-room : goal.pump_plain-pumped-requires-clause-room
 pump_plain-pumped-requires-clause-room g c = rw c.in-Ok.ensures.ok c.requires.room
