@@ -1,0 +1,6 @@
+pub mod Mentions
+pub mod ReadySets
+pub mod Telling
+pub mod Arriving
+pub mod Founded
+pub mod Indexing

@@ -1,0 +1,7 @@
+pub mod Naming
+pub mod Rooms
+pub mod Places
+pub mod Counting
+pub mod Totals
+pub mod Reading
+pub mod Answering

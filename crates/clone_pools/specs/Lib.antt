@@ -1,0 +1,5 @@
+pub mod Room
+pub mod Loans
+pub mod Lending
+pub mod Units
+pub mod Instances
