@@ -7,4 +7,4 @@ use Rattle.text_model.specs.Report.{line}
 abbrev pub job_line : Job → List ℕ
 job_line job =
     line (codes "job" ∷ decimal (length job.algorithms) ∷ codes "algorithms" ∷ decimal (length job.sequences) ∷ codes "sequences"
-        ∷ decimal (handle_count job) ∷ codes "handles" ∷ [])
+    ∷ decimal (handle_count job) ∷ codes "handles" ∷ [])
