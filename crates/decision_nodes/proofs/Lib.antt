@@ -1,0 +1,11 @@
+pub mod Counting
+pub mod Standings
+pub mod Marking
+pub mod Indexing
+pub mod Hearing
+pub mod Rising
+pub mod Meaning
+pub mod Beginning
+pub mod Cuts
+pub mod Found
+pub mod Withdrawn

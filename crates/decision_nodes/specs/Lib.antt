@@ -1,0 +1,9 @@
+pub mod Counting
+pub mod Standing
+pub mod Tree
+pub mod Marks
+pub mod Index
+pub mod Founding
+pub mod Telling
+pub mod Cutting
+pub mod Table
