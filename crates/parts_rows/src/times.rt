@@ -4,6 +4,7 @@
 //! instance and for the filter: what is printed is their text, whether reading it gives them back, and whether entry by
 //! entry the same is appended. Or it is `parse |` and a text, with `\n` for a line feed and `\r` for a carriage return:
 //! what is printed are its entries, or the refusal.
+use crate::words::{byte, long, short, word};
 use hive_model::{Entry, Fault, Outcome, Place};
 use std::alloc::{AllocError, Global};
 use timeline::{parse, print, print_entry};
@@ -117,23 +118,4 @@ fn fault_of(word: &str) -> Fault {
         "Index" => Fault::Index,
         _ => Fault::TooLong,
     }
-}
-
-fn word<'a>(words: &[&'a str], index: usize) -> &'a str {
-    match words.get(index) {
-        Some(word) => word,
-        None => "",
-    }
-}
-
-fn byte(words: &[&str], index: usize) -> u8 {
-    word(words, index).parse().unwrap_or(0)
-}
-
-fn short(words: &[&str], index: usize) -> u16 {
-    word(words, index).parse().unwrap_or(0)
-}
-
-fn long(words: &[&str], index: usize) -> u64 {
-    word(words, index).parse().unwrap_or(0)
 }

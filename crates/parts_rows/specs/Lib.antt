@@ -1,0 +1,4 @@
+pub mod Rooms
+pub mod Following
+pub mod Settling
+pub mod Taken
