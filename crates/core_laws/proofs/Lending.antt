@@ -18,7 +18,7 @@ use Rattle.hive_model.specs.Machine.{Busy, Machine, Outstanding, begun, claim_at
 use Rattle.hive_model.specs.Step.{busy_at, claimed, with_slot}
 
 -- a sum over the slots, where one slot changes
-changed : (f : Option Busy → ℕ) (m : Machine) (slot : ℕ) (old : Busy) (new : Option Busy) →
+pub changed : (f : Option Busy → ℕ) (m : Machine) (slot : ℕ) (old : Busy) (new : Option Busy) →
     busy_at m slot ≡ Some old →
     sum_by f (set m.slots slot new) + f (Some old) ≡ sum_by f m.slots + f new
 changed f m slot old new there =
@@ -29,7 +29,7 @@ changed f m slot old new there =
     ap (λ (o : Option Busy). sum_by f (set m.slots slot new) + f o) (sym was)
     ∙ sum_by-set f m.slots slot new None within
 
-filled : (f : Option Busy → ℕ) (m : Machine) (slot : ℕ) (new : Option Busy) →
+pub filled : (f : Option Busy → ℕ) (m : Machine) (slot : ℕ) (new : Option Busy) →
     slice_get m.slots slot ≡ Some None →
     sum_by f (set m.slots slot new) + f None ≡ sum_by f m.slots + f new
 filled f m slot new there =

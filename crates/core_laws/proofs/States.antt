@@ -279,7 +279,8 @@ last-sound job records m next sound h =
           again job m _ refl sound.exclusive;
     })
 
-step-sound : (job : Job) (records : List EventRecord) (past : List Entry) (m next : Machine) (entry : Entry) →
+pub step-sound : (job : Job) (records : List EventRecord) (past : List Entry) (m next : Machine)
+    (entry : Entry) →
     AreNumberedFrom (length job.raws) job.algorithms → IsSound job records m →
     step job records past m entry ≡ Some next →
     IsSound job records next
@@ -311,13 +312,21 @@ replay_from-sound job records past m last (entry ∷ journal) numbered sound h =
     replay_from-sound job records (past ++ entry ∷ []) it.value last journal numbered
     (step-sound job records past m it.value entry numbered sound it.was) it.gives
 
+pub opening-are-sound : (job : Job) (records : List EventRecord) (slots : ℕ) →
+    IsSound job records (opening slots)
+opening-are-sound job records slots = record {
+  busy = opening-sound job records slots;
+  ended = tt;
+  exclusive = opening-exclusive job slots;
+}
+
 pub replay-sound : (job : Job) (slots : ℕ) (records : List EventRecord) (journal : List Entry) (m : Machine) →
     AreNumberedFrom (length job.raws) job.algorithms → replay job slots records journal ≡ Some m →
     IsSound job records m
 unfolding replay
 replay-sound job slots records journal m numbered h =
     replay_from-sound job records [] (opening slots) m journal numbered
-    (record { busy = opening-sound job records slots; ended = tt; exclusive = opening-exclusive job slots }) h
+    (opening-are-sound job records slots) h
 
 -- the beginning of a run is a run
 
