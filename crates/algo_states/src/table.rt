@@ -1,5 +1,6 @@
 //! The table of one event.
 ghost use Rattle.std.specs.Prelude.{◌≡◌, ◌<◌, ◌≤◌, true, false, None, IfOk, length, nat_eq};
+ghost use Rattle.hive_model.specs.Results.{outcome_at};
 ghost use Rattle.hive_model.specs.Valid.{IsValidJob};
 ghost use Rattle.hive_model.specs.declared.limits.TheConstants.{MOST_ALGORITHMS};
 ghost use Rattle.algo_states.specs.States.{IsNextReady, holds, opening, opening_of, state_by, state_of, with_arrived, with_outcome, with_reached, with_scheduled};
@@ -156,6 +157,16 @@ impl StateTable {
             self.reached[number],
             self.missing[number],
         )
+    }
+
+    /// How an algorithm has ended; `None` where it has not run, or there is no such algorithm.
+    pub fn outcome(&self, algorithm: u16) -> Option<Outcome>
+        ensures { result ≡ outcome_at self.now.outcomes algorithm }
+    {
+        match self.outcomes.get(usize::from(algorithm)) {
+            Some(outcome) => *outcome,
+            None => None,
+        }
     }
 
     fn with_index(
