@@ -1,0 +1,9 @@
+pub mod Flow
+pub mod Claimable
+pub mod Steps
+pub mod Told
+pub mod Events
+pub mod Arriving
+pub mod Claims
+pub mod Telling
+pub mod Keeping
