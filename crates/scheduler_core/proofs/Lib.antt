@@ -1,0 +1,13 @@
+pub mod Entries
+pub mod Owing
+pub mod Keeping
+pub mod Claims
+pub mod Opened
+pub mod Admitted
+pub mod Handed
+pub mod Undone
+pub mod Refused
+pub mod Returned
+pub mod Bookable
+pub mod Ended
+pub mod Recalled
