@@ -1,0 +1,17 @@
+-- lists
+pub mod Counting
+-- an entry, and what it makes of the claims and the work
+pub mod Entries
+pub mod Effects
+-- nothing is outstanding
+pub mod Quiet
+-- a turn that performs an algorithm
+pub mod Ran
+-- counts, and results that wait
+pub mod Tallies
+pub mod Window
+-- a turn that ends an event
+pub mod Ended
+-- what each call of the loop leaves true
+pub mod Loops
+pub mod Rooms

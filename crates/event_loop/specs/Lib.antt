@@ -1,0 +1,4 @@
+pub mod Waiting
+pub mod Loop
+pub mod Running
+pub mod Performing
