@@ -1,0 +1,5 @@
+pub mod Draws
+pub mod Events
+pub mod EventTexts
+pub mod OptionsText
+pub mod Rest
