@@ -1,43 +1,43 @@
 -- The phases of a job's definition, one after another.
-use Rattle.std.proofs.Common.{codes, ◌≡◌, ◌≢◌, ℕ, ◌+◌, ◌==◌, ◌≤◌, nat_eq, nat_lt, Bool, true, false, not, ◌&&◌, if◌then◌else◌, List, [], ◌∷◌, ◌++◌, length, map, find, position, Option, Some, None, Result, Ok, Err, IfOk, option_map, refl, ap, sym, ◌∙◌, arith, length-append}
+use Rattle.std.proofs.Common.{codes, ◌≡◌, ◌≢◌, ℕ, ◌+◌, ◌≤◌, nat_lt, Bool, true, false, not, ◌&&◌, List, [], ◌∷◌, ◌++◌, length, map, find, position, Option, Some, None, Result, Ok, Err, IfOk, option_map, refl, ap, sym, ◌∙◌, subst, arith, length-append}
 use Rattle.std.proofs.lemmas.List.{length-map}
 use Rattle.std.specs.List.{AllByRecursion, enumerate_from, flat_map, list_any, zip}
 use Rattle.std.specs.Option.{option_map_or}
+use Rattle.event_laws.specs.Uncut.{HasNoCut}
 use Rattle.hive_model.specs.Algorithm.{Algorithm}
 use Rattle.hive_model.specs.Below.{is_algorithm_below}
 use Rattle.hive_model.specs.Job.{Job}
 use Rattle.hive_model.specs.Sequence.{Sequence}
 use Rattle.hive_model.specs.Valid.{AreDistinctNames, IsValidJob, handle_names}
-use Rattle.hive_model.specs.declared.limits.TheConstants.{MOST_ALGORITHMS, MOST_HANDLES, MOST_LEAVES}
+use Rattle.hive_model.specs.declared.limits.TheConstants.{MOST_HANDLES}
 use Rattle.hive_model.specs.declared.product.Kind.{Kind as KindOf}
 use Rattle.hive_model.specs.declared.sequence.Member.{Member}
 use Rattle.text_model.specs.CutNodes.{cut_refusal, input_cut_off, is_cut_off, is_of_wrong_kind, is_shared, may_lack, produces, shared, wrong_kind}
-use Rattle.text_model.specs.Forest.{Branch, Forest, all_of, branch_names, forest_of, forest_over, leaves_in, members_by_number, on_cycle, sequences_in, too_deep, unknown_member}
+use Rattle.text_model.specs.Forest.{Forest, forest_of}
 use Rattle.text_model.specs.Gives.{Gives}
 use Rattle.text_model.specs.JobAlgorithms.{Scope, algorithms_from, raw_kinds}
 use Rattle.text_model.specs.JobNames.{algorithm_names, names_refusal, resource_names, sequence_names}
 use Rattle.text_model.specs.Jobs.{branch_of, handles_fit, job_of, job_of_raw, job_with, need_of, needs_of, raw_names, scope_of, sequence_with}
-use Rattle.text_model.specs.Names.{first_repeated, name_at, number_of}
+use Rattle.text_model.specs.Names.{name_at}
 use Rattle.text_model.specs.Producers.{Graph, Need, graph_of, handles_of}
 use Rattle.text_model.specs.RawOptions.{RawAlgorithm, RawOptions, RawSequence}
 use Rattle.text_model.specs.Refusals.{of_graph, of_options, of_tree}
 use Rattle.text_model.specs.Shape.{HasShape}
 use Rattle.text_model.specs.Options.{read_of}
-use Rattle.text_model.specs.Steps.{◌>>=◌, find_map, first_of, map_err, or_refuse, refuse_found, refuse_if, refuse_some}
+use Rattle.text_model.specs.Steps.{◌>>=◌, find_map, first_of, map_err, refuse_found, refuse_if, refuse_some}
 use Rattle.text_model.specs.declared.graph_refusal.GraphRefusal.{GraphRefusal}
 use Rattle.text_model.specs.declared.graph_refusal.GraphRefusal.TheVariants as graph
 use Rattle.text_model.specs.declared.job_refusal.JobRefusal.{JobRefusal}
 use Rattle.text_model.specs.declared.job_refusal.JobRefusal.TheVariants.{Cut, NoMemory, Options}
-use Rattle.text_model.specs.declared.limits.TheConstants.{FIRST_VERSION, MOST_ALGORITHMS_OF_VERSION_1}
 use Rattle.text_model.specs.declared.options_refusal.OptionsRefusal.{OptionsRefusal}
 use Rattle.text_model.specs.declared.options_refusal.OptionsRefusal.TheVariants as options
 use Rattle.text_model.specs.declared.options_refusal.OptionsRefusal.TheVariants.{Range}
 use Rattle.text_model.specs.declared.cut_refusal.CutRefusal.TheVariants.{Input, Kind, Shared}
-use Rattle.text_model.specs.declared.tree_refusal.TreeRefusal.TheVariants.{SequenceCycle, SharedSequence, TooDeep, TooManyLeaves, TopIsMember, UnknownTop}
 use Rattle.job_build.specs.Steps.{scope_read}
 use Rattle.job_options.specs.Known.{known_language}
 use Rattle.job_options.specs.Uncut.{IsUncut}
 use Rattle.text_laws.proofs.Looked.{names-looked}
+use Rattle.text_laws.proofs.Made.{told as job-told}
 use Rattle.text_laws.proofs.Planted.{planted}
 use Rattle.text_laws.proofs.Steps.{at-most, untold}
 use Rattle.text_laws.proofs.Valid.{few-algorithms, told-valid}
@@ -92,6 +92,12 @@ pub zip-uncut : (raws : List RawSequence) (members : List (List Member)) → All
 zip-uncut [] members h = tt
 zip-uncut (q ∷ raws) [] h = tt
 zip-uncut (q ∷ raws) (ms ∷ members) (h, hs) = (h, zip-uncut raws members hs)
+
+-- so the job that is told has none
+told-uncut : (raw : RawOptions) (job : Job) → IsUncut raw → job_of_raw raw ≡ Ok job → HasNoCut job
+told-uncut raw job uncut e =
+    let it = job-told raw job e in
+    subst (λ (j : Job). HasNoCut j) it.is (zip-uncut raw.sequences it.forest.members uncut)
 
 shared-uncut : (job : Job) (number : ℕ) → HaveNoCut job.sequences → is_shared job number ≡ false
 shared-uncut job number h = rw (any-uncut 0 job.sequences (λ s. is_algorithm_below job s number) h) refl
@@ -237,7 +243,12 @@ pub given-valid : (raw : RawOptions) (r : Result Job JobRefusal) → HasShape ra
 given-valid raw (Ok job) shape told = told-valid raw job shape told
 given-valid raw (Err e) shape told = tt
 
-pub ruleset reading = (job-of-read, job-of-refused, given-valid)
+pub given-uncut : (raw : RawOptions) (r : Result Job JobRefusal) → IsUncut raw → Gives NoMemory r (job_of_raw raw) →
+    IfOk r (λ (job : Job). HasNoCut job)
+given-uncut raw (Ok job) uncut told_of = told-uncut raw job uncut told_of
+given-uncut raw (Err e) uncut told_of = tt
+
+pub ruleset reading = (job-of-read, job-of-refused, given-valid, given-uncut)
 
 pub ruleset few = (few-algorithms)
 

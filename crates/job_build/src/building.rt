@@ -1,5 +1,6 @@
 //! The job of an options text.
 ghost use Rattle.std.specs.Prelude.{◌≡◌, ◌≤◌, length, IfOk};
+ghost use Rattle.event_laws.specs.Uncut.{HasNoCut};
 ghost use Rattle.hive_model.specs.Valid.{IsValidJob};
 ghost use Rattle.job_build.specs.Steps.{scope_read};
 ghost use Rattle.job_options.specs.Known.{known_language};
@@ -28,6 +29,8 @@ use text_model::{JobRefusal, OptionsRefusal, RawOptions};
 pub fn build(alloc: Global, bytes: &[u8]) -> Result<Job, JobRefusal>
     ensures meaning { Gives NoMemory result (job_of known_language bytes.now) }
     ensures valid { IfOk result IsValidJob }
+    // No sequence of the language that is known can be a cut node.
+    ensures uncut { IfOk result HasNoCut }
 {
     match read(alloc, bytes) {
         Ok(raw) => build_raw(alloc, raw),
