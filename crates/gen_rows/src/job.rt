@@ -1,7 +1,7 @@
 //! The job of the generated options.
 ghost use Rattle.std.specs.Prelude.{IfOk, IfSome};
 ghost use Rattle.std.specs.Arc.{arc_value};
-ghost use Rattle.hive_model.specs.Runnable.{IsRunnable};
+ghost use Rattle.event_laws.specs.Uncut.{HasNoCut};
 ghost use Rattle.hive_model.specs.Valid.{IsValidJob};
 
 use hive_gen::options;
@@ -12,8 +12,8 @@ use std::sync::Arc;
 
 /// The job, or `None` where the options are refused.
 pub(crate) fn job(alloc: Global) -> Result<Option<Arc<Job>>, AllocError>
-    ensures runnable { IfOk result (λ o. IfSome o (λ it. IsRunnable (arc_value it))) }
     ensures valid { IfOk result (λ o. IfSome o (λ it. IsValidJob (arc_value it))) }
+    ensures uncut { IfOk result (λ o. IfSome o (λ it. HasNoCut (arc_value it))) }
 {
     let options = options(alloc)?;
     match build(alloc, options.as_slice()) {

@@ -1,6 +1,7 @@
 //! A run of the job.
 ghost use Rattle.std.specs.Arc.{arc_value};
-ghost use Rattle.hive_model.specs.Runnable.{IsRunnable};
+ghost use Rattle.event_laws.specs.Uncut.{HasNoCut};
+ghost use Rattle.hive_model.specs.Valid.{IsValidJob};
 
 use crate::job::job;
 use hive_edge::{MemSink, MemSource};
@@ -21,7 +22,8 @@ pub(crate) fn run_text(alloc: Global, records: Vec<u8>) -> Result<String, AllocE
 }
 
 fn pumped(alloc: Global, job: Arc<Job>, records: Vec<u8>) -> Result<String, AllocError>
-    requires { IsRunnable (arc_value job) }
+    requires valid { IsValidJob (arc_value job) }
+    requires uncut { HasNoCut (arc_value job) }
 {
     let mut source = MemSource::new(records, PIECE, Vec::new(alloc));
     let mut sink = MemSink::new(alloc, PIECE, PIECE, Vec::new(alloc))?;

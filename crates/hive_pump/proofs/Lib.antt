@@ -1,8 +1,16 @@
+-- records whose reports were written, and those that follow
+pub mod Windows
 -- what may still be written
 pub mod Texts
--- counts after one more event
-pub mod Counted
+-- a report that was due
+pub mod Shown
+-- the loop runs out
+pub mod Draining
+-- and the run is brought to its end
+pub mod Finishing
 -- a run that goes on
 pub mod Going
--- a run that ends
-pub mod Ends
+-- and how reading stops
+pub mod Stopping
+-- what a run came to
+pub mod Pumping

@@ -1,6 +1,6 @@
 pub mod Reading
 pub mod Written
 pub mod Pumped
-pub mod Counting
 pub mod Steps
+pub mod Going
 pub mod Running

@@ -1,19 +1,16 @@
--- A run between two steps: what was read so far, what was written of it, and that nothing failed yet.
-use Rattle.std.specs.Prelude.{◌≡◌, ◌⊎◌, ℕ, ◌+◌, ◌-◌, ◌*◌, ◌<◌, Bool, true, if◌then◌else◌, List, [], ◌∷◌, ◌++◌, length, Option, Some, None, Result, Ok, Err}
+-- Steps of a run: a report, a piece of the input, and the last line; and how much is left to be read.
+use Rattle.std.specs.Prelude.{◌≡◌, ◌⊎◌, ℕ, ◌+◌, ◌-◌, ◌*◌, ◌<◌, Bool, true, if◌then◌else◌, List, [], ◌∷◌, ◌++◌, length, Option, Result, Ok, Err}
 use Rattle.std.specs.Io.KnownBytes.{Appends, Consumes, IsAtEnd, Keeps}
 use Rattle.event_records.specs.Reading.{HasRead, Reading}
 use Rattle.hive_edge.specs.Fault.{Rose}
 use Rattle.hive_model.specs.Event.{event_result}
 use Rattle.hive_model.specs.EventRecord.{EventRecord}
 use Rattle.hive_model.specs.Job.{Job}
-use Rattle.report_text.specs.Counted.{IsCounted}
-use Rattle.report_text.specs.Tallied.{CountsAll}
 use Rattle.report_text.specs.declared.counts.Counts.{Counts}
 use Rattle.text_model.specs.Stops.{stop_record, stop_source}
 use Rattle.text_model.specs.Whole.{done_line, reports}
 use Rattle.text_model.specs.declared.limits.TheConstants.{MOST_LINES, MOST_LINE_BYTES, MOST_RECORDS_BYTES}
-use Rattle.hive_pump.specs.Pumped.{IsPumped}
-use Rattle.hive_pump.specs.Written.{AppendsPrefix, results, written}
+use Rattle.hive_pump.specs.Written.{AppendsPrefix}
 use Rattle.hive_pump.specs.declared.ending.Ending.{Ending}
 use Rattle.hive_pump.specs.declared.ending.Ending.TheVariants as ending
 
@@ -31,15 +28,6 @@ pub record IsBroken {K : Type 0} (got : K → Option (List ℕ)) (faults : K →
 -- the report of one event
 abbrev pub report_on : Job → Bool → EventRecord → List ℕ
 report_on job brief event = reports job brief (event_result job event ∷ [])
-
--- One more event was evaluated, counted and written, or which failure broke that off.
-abbrev pub PutsEvent : {K : Type 0} → (K → Option (List ℕ)) → (K → ℕ) → (K → List ℕ → Type 0) → Job → Bool → EventRecord → Counts → Counts → K → K → Result (Unit {0}) Ending → Type 0
-PutsEvent got faults admits job brief event counts counts_now sink sink_now (Ok it) =
-    IsCounted counts (event_result job event).status counts_now × IsSent got faults admits sink sink_now (report_on job brief event)
-PutsEvent got faults admits job brief event counts counts_now sink sink_now (Err ending.Sink) =
-    IsCounted counts (event_result job event).status counts_now × IsBroken got faults sink sink_now (report_on job brief event)
-PutsEvent got faults admits job brief event counts counts_now sink sink_now (Err ending.NoMemory) = (counts_now ≡ counts) × (sink_now ≡ sink)
-PutsEvent got faults admits job brief event counts counts_now sink sink_now (Err other) = ⊥
 
 -- Some bytes, or the end of the input, went from the source to the reader.
 pub record IsFed {S : Type 0} (rest : S → Option (List ℕ)) (faults : S → ℕ) (before now : S) (reader reader_now : Reading) (taken taken_now : ℕ) : Type 0 where
@@ -86,28 +74,10 @@ PutsLast got faults admits ended counts sink sink_now ending.Sink = IsBroken got
 PutsLast got faults admits ended counts sink sink_now ending.NoMemory = sink_now ≡ sink
 PutsLast got faults admits ended counts sink sink_now other = (other ≡ ended) × IsSent got faults admits sink sink_now (line_at ended counts)
 
--- Where the source failed its last line was put; else nothing came of it.
-abbrev pub StopsReading : {K : Type 0} → (K → Option (List ℕ)) → (K → ℕ) → (K → List ℕ → Type 0) → Ending → Counts → K → K → Ending → Type 0
-StopsReading got faults admits ending.Source counts sink sink_now result = PutsLast got faults admits ending.Source counts sink sink_now result
-StopsReading got faults admits other counts sink sink_now result = (result ≡ other) × (sink_now ≡ sink)
-
 -- more bytes than a text can have that may go on and has no refused line
 abbrev pub most_read : ℕ
 most_read = MOST_RECORDS_BYTES + 2 * (MOST_LINE_BYTES + 2)
 
--- how much is left to be read and to be written, at most; the end of the input counts as one more
-abbrev pub left_to_do : ℕ → ℕ → Bool → ℕ
-left_to_do taken events ended = (most_read + 1 - taken) + (MOST_LINES - events) + (if ended then 0 else 1)
-
--- A run between two steps.
-pub record IsUnderWay {S K : Type 0} (rest : S → Option (List ℕ)) (source_faults : S → ℕ) (got : K → Option (List ℕ)) (sink_faults : K → ℕ) (admits : K → List ℕ → Type 0) (job : Job) (brief : Bool) (source source_now : S) (sink sink_now : K) (reader : Reading) (counts : Counts) (taken : ℕ) : Type 0 where
-  -- the bytes read, and the records evaluated
-  pub fed : List ℕ
-  pub given : List EventRecord
-  pub reads : HasRead job fed given reader
-  pub bytes : Consumes (rest source) (rest source_now) fed
-  pub at_end : reader.ended ≡ true → IsAtEnd (rest source_now)
-  pub source_calm : source_faults source_now ≡ source_faults source
-  pub sent : IsSent got sink_faults admits sink sink_now (written job brief given None)
-  pub counted : CountsAll (results job given) counts
-  pub total : taken ≡ length fed
+-- how much is left to be read, at most; the end of the input counts as one more
+abbrev pub left_to_read : ℕ → ℕ → Bool → ℕ
+left_to_read taken events ended = (most_read + 1 - taken) + (MOST_LINES - events) + (if ended then 0 else 1)

@@ -1,19 +1,25 @@
 //! The run on one thread.
-ghost use Rattle.std.specs.Prelude.{◌≡◌, ℕ, List, [], IfOk, vec_len};
+ghost use Rattle.std.specs.Prelude.{◌≡◌, ◌≤◌, ℕ, [], List, IfOk, IsFalse, IsTrue, vec_len};
 ghost use Rattle.std.specs.Arc.{arc_value};
-ghost use Rattle.hive_model.specs.Runnable.{IsRunnable};
+ghost use Rattle.event_laws.specs.Uncut.{HasNoCut};
+ghost use Rattle.event_loop.specs.Loop.{HasRoom, IsIdleAt, IsLoop};
 ghost use Rattle.hive_model.specs.Same.{texts};
-ghost use Rattle.hive_model.specs.Valid.{handle_names};
+ghost use Rattle.hive_model.specs.Valid.{IsValidJob, handle_names};
+ghost use Rattle.hive_model.specs.declared.limits.TheConstants.{MOST_SLOTS};
+ghost use Rattle.hive_pump.specs.Going.{HasStopped};
 ghost use Rattle.hive_pump.specs.Pumped.{IsPumped};
 ghost use Rattle.hive_pump.specs.Running.{IsReady};
 ghost use Rattle.hive_pump.specs.Written.{MayWrite};
 
 use crate::ending::Ending;
+use crate::finish::finish;
 use crate::plan::Plan;
-use crate::run::{put_event, put_last, read_on, stop_reading};
+use crate::run::read_on;
+use crate::step::{Step, make_step};
+use event_loop::EventLoop;
 use event_records::{Next, Records};
 use hive_edge::{Sink, Source};
-use hive_model::{Entry, Job, Many};
+use hive_model::{Entry, EventRecord, Job, Many};
 use report_text::{Counts, names_of};
 use std::alloc::{AllocError, Global};
 use std::sync::Arc;
@@ -23,17 +29,19 @@ use std::sync::Arc;
 pub struct Pumped {
     /// How it ended.
     pub ending: Ending,
-    /// The events that were evaluated, and their statuses.
+    /// The events that ended, and their statuses.
     pub counts: Counts,
-    /// The journal of the scheduler. It is empty, since events are evaluated one after another.
+    /// The journal of the scheduler.
     pub journal: Many<Entry>,
 }
 
-/// Runs a job on the records of the source, event by event on this thread, and writes each report to the sink as
-/// soon as its event was evaluated, and the last line (docs/FORMATS.md, "Report").
+/// Runs a job on the records of the source, with several events in flight on this thread, and writes the reports to
+/// the sink in the order of the records, each as soon as all before it are written, and the last line
+/// (docs/FORMATS.md, "Report").
 ///
-/// It reads 65,536 bytes at a time and keeps no record that was evaluated, so its memory doesn't grow with the
-/// input. It flushes nothing.
+/// It reads 65,536 bytes at a time. It admits while a slot is empty and fewer than twice the slots of admitted events
+/// have no report yet; only where it can't admit it performs an algorithm. Its memory grows with the input by the
+/// journal and the records that were admitted. It flushes nothing.
 pub fn pump_plain<S: Source, K: Sink>(
     alloc: Global,
     job: Arc<Job>,
@@ -41,44 +49,70 @@ pub fn pump_plain<S: Source, K: Sink>(
     source: &mut S,
     sink: &mut K,
 ) -> Pumped
-    requires runnable { IsRunnable (arc_value job) }
+    requires valid { IsValidJob (arc_value job) }
+    requires uncut { HasNoCut (arc_value job) }
+    requires some { 1 ≤ plan.now.slots }
+    requires few { plan.now.slots ≤ MOST_SLOTS }
     requires room { (text : List ℕ)
         → MayWrite (arc_value job) plan.now.brief (S.rest source.old) text → K.admits sink.old text }
-    ensures pumped { IsPumped (arc_value job) plan.now.brief (S.rest source.old) (S.rest source.new)
+    ensures { IsPumped (arc_value job) plan.now.slots plan.now.brief (S.rest source.old) (S.rest source.new)
         (K.got sink.old) (K.got sink.new) (S.faults source.old) (S.faults source.new)
-        (K.faults sink.old) (K.faults sink.new) result.ending result.counts }
+        (K.faults sink.old) (K.faults sink.new) result.ending result.counts result.journal.items }
+{
+    let Ok(names) = names_of(alloc, &job) else {
+        return nothing(alloc);
+    };
+    match Run::new(alloc, &job, plan.slots) {
+        Ok(run) => run_job(alloc, &job, names.as_slice(), plan.brief, run, source, sink),
+        Err(_) => nothing(alloc),
+    }
+}
+
+// Memory ran out before anything was done.
+fn nothing(alloc: Global) -> Pumped
+    ensures ending { result.ending ≡ Ending.NoMemory }
+    ensures counts { result.counts ≡ record { events = 0; ok = 0; failed = 0; stalled = 0 } }
     ensures journal { result.journal.items ≡ [] }
 {
-    let (ending, counts) = run_job(alloc, &job, plan.brief, source, sink);
     Pumped {
-        ending,
-        counts,
+        ending: Ending::NoMemory,
+        counts: Counts::new(),
         journal: Many::new(alloc),
     }
 }
 
+// Reads, and finishes.
 fn run_job<S: Source, K: Sink>(
     alloc: Global,
-    job: &Arc<Job>,
+    job: &Job,
+    names: &[&str],
     brief: bool,
+    run: Run,
     source: &mut S,
     sink: &mut K,
-) -> (Ending, Counts)
-    requires runnable { IsRunnable (arc_value job.now) }
-    requires room { (text : List ℕ)
-        → MayWrite (arc_value job.now) brief (S.rest source.old) text → K.admits sink.old text }
-    ensures { IsPumped (arc_value job.now) brief (S.rest source.old) (S.rest source.new)
+) -> Pumped
+    requires valid { IsValidJob job.now }
+    requires uncut { HasNoCut job.now }
+    requires named { texts names.now ≡ handle_names job.now }
+    requires ready { IsReady job.now run.events.desk.slots run.reader run.events run.taken (vec_len run.buffer) }
+    requires room { (text : List ℕ) → MayWrite job.now brief (S.rest source.old) text → K.admits sink.old text }
+    ensures { IsPumped job.now run.events.desk.slots brief (S.rest source.old) (S.rest source.new)
         (K.got sink.old) (K.got sink.new) (S.faults source.old) (S.faults source.new)
-        (K.faults sink.old) (K.faults sink.new) result.0 result.1 }
+        (K.faults sink.old) (K.faults sink.new) result.ending result.counts result.journal.items }
 {
-    let Ok(mut run) = Run::new(alloc, job) else {
-        return (Ending::NoMemory, Counts::new());
-    };
-    let Ok(names) = names_of(alloc, job) else {
-        return (Ending::NoMemory, Counts::new());
-    };
-    let ending = run_all(alloc, job, names.as_slice(), brief, &mut run, source, sink);
-    (ending, run.counts)
+    let mut run = run;
+    let ended = read_all(alloc, job, names, brief, &mut run, source, sink);
+    let ending = finish(
+        alloc,
+        job,
+        names,
+        brief,
+        ended,
+        &mut run.events,
+        &mut run.text,
+        sink,
+    );
+    run.told(ending)
 }
 
 // How many bytes one read asks for.
@@ -88,7 +122,7 @@ const PIECE: usize = 65_536;
 #[derive(Drop)]
 struct Run {
     reader: Records,
-    counts: Counts,
+    events: EventLoop,
     // How many bytes were read.
     taken: usize,
     // The text that is written next.
@@ -97,23 +131,42 @@ struct Run {
 }
 
 impl Run {
-    fn new(alloc: Global, job: &Arc<Job>) -> Result<Run, AllocError>
-        ensures { IfOk result (λ it. IsReady (arc_value job.now) it.reader it.counts it.taken (vec_len it.buffer)) }
+    fn new(alloc: Global, job: &Arc<Job>, slots: u8) -> Result<Run, AllocError>
+        requires valid { IsValidJob (arc_value job.now) }
+        requires some { 1 ≤ slots }
+        requires few { slots ≤ MOST_SLOTS }
+        ensures { IfOk result (λ it.
+            IsReady (arc_value job.now) slots it.reader it.events it.taken (vec_len it.buffer)) }
     {
         let reader = Records::new(alloc, Arc::try_clone(job)?)?;
+        let events = EventLoop::new(alloc, Arc::try_clone(job)?, slots)?;
         let buffer = vec![in alloc; 0u8; PIECE]?;
         Ok(Run {
             reader,
-            counts: Counts::new(),
+            events,
             taken: 0,
             text: Vec::new(alloc),
             buffer,
         })
     }
+
+    // What it came to, where it ended so.
+    fn told(self, ending: Ending) -> Pumped
+        ensures ending { result.ending ≡ ending }
+        ensures counts { result.counts ≡ self.events.counts }
+        ensures journal { result.journal.items ≡ self.events.desk.journal }
+    {
+        let counts = *self.events.counts();
+        Pumped {
+            ending,
+            counts,
+            journal: self.events.into_journal(),
+        }
+    }
 }
 
-// The steps of a run, until it ends.
-fn run_all<S: Source, K: Sink>(
+// Reads and admits, and makes steps where nothing can be admitted, until reading stops.
+fn read_all<S: Source, K: Sink>(
     alloc: Global,
     job: &Job,
     names: &[&str],
@@ -122,44 +175,60 @@ fn run_all<S: Source, K: Sink>(
     source: &mut S,
     sink: &mut K,
 ) -> Ending
-    requires runnable { IsRunnable job.now }
+    requires valid { IsValidJob job.now }
+    requires uncut { HasNoCut job.now }
     requires named { texts names.now ≡ handle_names job.now }
-    requires ready { IsReady job.now run.old.reader run.old.counts run.old.taken (vec_len run.old.buffer) }
+    requires ready { IsReady job.now run.old.events.desk.slots run.old.reader run.old.events run.old.taken
+        (vec_len run.old.buffer) }
     requires room { (text : List ℕ) → MayWrite job.now brief (S.rest source.old) text → K.admits sink.old text }
-    ensures { IsPumped job.now brief (S.rest source.old) (S.rest source.new)
-        (K.got sink.old) (K.got sink.new) (S.faults source.old) (S.faults source.new)
-        (K.faults sink.old) (K.faults sink.new) result run.new.counts }
+    ensures stopped { HasStopped S.rest S.faults K.got K.faults K.admits job.now run.old.events.desk.slots brief
+        source.old source.new
+        sink.old sink.new run.new.events result }
+    ensures is_loop { IsLoop run.new.events }
 {
     'records: loop {
-        match run.reader.next(alloc) {
-            Next::Event(event) => {
-                let put = put_event(
-                    alloc,
-                    job,
-                    names,
-                    brief,
-                    &event,
-                    &mut run.text,
-                    &mut run.counts,
-                    sink,
-                );
-                match put {
-                    Ok(()) => {}
-                    Err(ending) => return ending,
+        if can_read(&run.events) {
+            match run.reader.next(alloc) {
+                Next::Event(event) => {
+                    if run.events.admit(alloc, event).is_err() {
+                        return Ending::NoMemory;
+                    }
                 }
-            }
-            Next::More => {
-                let buffer = run.buffer.as_mut_slice();
-                match read_on(source, buffer, &mut run.reader, &mut run.taken) {
-                    Ok(()) => {}
-                    Err(ending) => return stop_reading(ending, &run.counts, &mut run.text, sink),
+                Next::More => {
+                    let buffer = run.buffer.as_mut_slice();
+                    match read_on(source, buffer, &mut run.reader, &mut run.taken) {
+                        Ok(()) => {}
+                        Err(ending) => return ending,
+                    }
                 }
+                Next::Refused(refusal) => return Ending::Refused(refusal),
+                Next::Finished => return Ending::All,
+                Next::NoMemory => return Ending::NoMemory,
             }
-            Next::Refused(refusal) => {
-                return put_last(Ending::Refused(refusal), &run.counts, &mut run.text, sink);
+        } else {
+            match make_step(
+                alloc,
+                job,
+                names,
+                brief,
+                &mut run.events,
+                &mut run.text,
+                sink,
+            ) {
+                Step::Went => {}
+                Step::Broken => return Ending::Sink,
+                Step::NoMemory => return Ending::NoMemory,
+                Step::Idle => unreachable!(),
+                Step::Over => unreachable!(),
             }
-            Next::Finished => return put_last(Ending::All, &run.counts, &mut run.text, sink),
-            Next::NoMemory => return Ending::NoMemory,
         }
     }
+}
+
+// Whether the next record may be read: no report is due, and its event could be admitted.
+fn can_read(events: &EventLoop) -> bool
+    ensures room { IsTrue result → HasRoom events.now }
+    ensures goes_on { IsFalse result → IsIdleAt events.now → ⊥ }
+{
+    !events.has_result() && events.has_room()
 }

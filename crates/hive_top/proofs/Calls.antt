@@ -1,29 +1,29 @@
 -- What a call came to, by what stopped it or what came of its job.
 use Rattle.std.proofs.Common.{◌≡◌, ◌≢◌, ◌⊎◌, inl, inr, ℕ, nat_eq, Bool, true, false, List, [], ◌∷◌, ◌++◌, length, Option, Some, None, Result, Ok, Err, IfSome, if◌then◌else◌, refl, sym, ap, subst, ◌∙◌, append_assoc, append-nil}
-use Rattle.std.proofs.KnownBytes.{Appends-kept}
-use Rattle.std.specs.Io.KnownBytes.{Appends, Consumes, IsAtEnd, Keeps}
+use Rattle.std.specs.Io.KnownBytes.{Consumes, IsAtEnd}
 use Rattle.std.specs.Option.{option_map_or}
-use Rattle.event_records.specs.Reading.{IsFuture, just}
+use Rattle.event_records.specs.Reading.{IsFuture}
 use Rattle.event_records.proofs.Growing.{known-on}
-use Rattle.hive_edge.specs.Fault.{Rose}
 use Rattle.hive_edge.specs.Shelf.{Files}
 use Rattle.hive_model.specs.Event.{event_result}
 use Rattle.hive_model.specs.EventRecord.{EventRecord}
 use Rattle.hive_model.specs.Job.{Job}
+use Rattle.hive_model.specs.declared.entry.Entry.{Entry}
 use Rattle.hive_pump.specs.Pumped.{CountsSource}
-use Rattle.hive_pump.specs.Reading.{Begins, IsRead, Says}
+use Rattle.hive_pump.specs.Reading.{IsRead}
 use Rattle.hive_pump.specs.Written.{AppendsPrefix, CanCome, IsWhole, MayWrite, results, text_of, written}
 use Rattle.text_model.specs.Records.{Known, most_events, records_of, so_far}
 use Rattle.text_model.specs.Report.{report}
 use Rattle.text_model.specs.Whole.{Ending as Last, ReadToEnd, RefusedAt, SourceFailed, is_ok, last_line, reports, tally, whole}
 use Rattle.text_model.specs.declared.record_refusal.RecordRefusal.{RecordRefusal}
-use Rattle.hive_top.specs.Answer.{Answer, IsDue, IsDueOfFile, IsDueOfJob, IsDueOfName, IsDueOfVerb, checked, named_job, run_answer, status_of, stopped}
+use Rattle.hive_top.specs.Answer.{Answer, IsDue, IsDueOfFile, IsDueOfJob, IsDueOfVerb, checked, named_job, run_answer, status_of, stopped}
 use Rattle.hive_top.specs.Called.{BearsOut, Called, CountsShelf, ReadsJob, Wrote}
 use Rattle.hive_top.specs.RunsTo.{RunsTo, WroteRun}
 use Rattle.hive_top.specs.Status.{IsOneOf}
 use Rattle.hive_top.specs.Stopped.{status_at, text_at}
 use Rattle.hive_top.specs.Words.{command_of}
 use Rattle.hive_top.specs.Works.{MayWork, WorksTo}
+use Rattle.hive_top.specs.declared.run.TheConstants.{SLOTS}
 use Rattle.hive_top.specs.declared.status.Status.{Status}
 use Rattle.hive_top.specs.declared.status.Status.TheVariants as status
 use Rattle.hive_top.specs.declared.stop.Stop.{Stop}
@@ -285,8 +285,9 @@ module _ (words : List (List ℕ)) (files : Option Files) (rest now got got' : O
           made (run_answer job ReadToEnd (records_of job all)) (rw rest_is refl) (longer got got' _ _ _ bytes text)
 
   -- what came of a job
-  pub called-run : (ended : Status) → RunsTo job rest now got got' s s' k k' ended → CalledSo ended
-  called-run ended ran = by ran.last ran.read ran.source_count ran.wrote
+  pub called-run : (slots : ℕ) (ended : Status) (journal : List Entry) →
+      RunsTo job slots rest now got got' s s' k k' ended journal → CalledSo ended
+  called-run slots ended journal ran = by ran.last ran.read ran.source_count ran.wrote
     where
       given : List EventRecord
       given = ran.given
@@ -407,11 +408,12 @@ module _ (words : List (List ℕ)) (files : Option Files) (rest got got' : Optio
 
 -- what came of a job, by what its verb says
 pub called-work : (words : List (List ℕ)) (files : Option Files) (rest now got got' : Option (List ℕ)) (f f' s s' k k' : ℕ) (verb : Verb)
-    (name : List ℕ) (job : Job) → command_of words ≡ Some (verb, name) → ReadsJob (named_job name files) (Ok job) → f' ≡ f → (ended : Status) →
-    WorksTo verb job rest now got got' s s' k k' ended → Called words files rest now got got' f f' s s' k k' ended
-called-work words files rest now got got' f f' s s' k k' Run name job is reads same ended ran =
-    called-run words files rest now got got' f f' s s' k k' name job is reads same ended ran
-called-work words files rest now got got' f f' s s' k k' Check name job is reads same ended (wrote, kept, calm) =
+    (name : List ℕ) (job : Job) → command_of words ≡ Some (verb, name) → ReadsJob (named_job name files) (Ok job) → f' ≡ f → (ended : Status) (journal : List Entry) →
+    WorksTo verb job rest now got got' s s' k k' ended journal → Called words files rest now got got' f f' s s' k k' ended
+called-work words files rest now got got' f f' s s' k k' Run name job is reads same ended journal ran =
+    called-run words files rest now got got' f f' s s' k k' name job is reads same SLOTS ended journal ran
+called-work words files rest now got got' f f' s s' k k' Check name job is reads same ended journal
+    (wrote, kept, calm, empty) =
     rw (kept, calm) (called-check words files rest got got' f f' s k k' ended name job is reads same wrote)
 
 -- the run of a job doesn't end as wrong words do
@@ -425,8 +427,15 @@ never-words job given ReadToEnd e = no-words (nat_eq (tally is_ok (results job g
 never-words job given (RefusedAt refusal) e = cc
 never-words job given SourceFailed e = cc
 
-pub ran-words : (job : Job) (rest now got got' : Option (List ℕ)) (s s' k k' : ℕ) (ended : Status) →
-    RunsTo job rest now got got' s s' k k' ended → ended ≡ status.Words → ⊥
-ran-words job rest now got got' s s' k k' ended ran e =
+pub ran-words : (job : Job) (slots : ℕ) (rest now got got' : Option (List ℕ)) (s s' k k' : ℕ) (ended : Status)
+    (journal : List Entry) → RunsTo job slots rest now got got' s s' k k' ended journal → ended ≡ status.Words → ⊥
+ran-words job slots rest now got got' s s' k k' ended journal ran e =
     let wrote = rw e at ran.wrote in
     never-words job ran.given wrote.0 wrote.2
+
+-- by another name of the status
+pub as-told : (words : List (List ℕ)) (files : Option Files) (rest now got got' : Option (List ℕ)) (f f' s s' k k' : ℕ)
+    (ended told : Status) → Called words files rest now got got' f f' s s' k k' ended → told ≡ ended →
+    Called words files rest now got got' f f' s s' k k' told
+as-told words files rest now got got' f f' s s' k k' ended told c e =
+    subst (λ x. Called words files rest now got got' f f' s s' k k' x) (sym e) c

@@ -1,17 +1,17 @@
 -- What a call owes by its counts follows from what they bear out.
-use Rattle.std.proofs.Common.{◌≡◌, ◌≢◌, ◌⊎◌, inl, inr, ℕ, Bool, true, false, List, [], Option, refl, sym, ◌∙◌, arith, append-nil}
+use Rattle.std.proofs.Common.{◌≡◌, ◌≢◌, ◌⊎◌, inl, inr, ℕ, Bool, true, false, List, [], Option, refl, sym, arith, append-nil}
 use Rattle.std.proofs.lemmas.Bool.Decides.{nat_tests}
 use Rattle.std.specs.Io.KnownBytes.{Appends}
 use Rattle.hive_edge.specs.Fault.{Calm, Rose}
 use Rattle.hive_edge.specs.Shelf.{Files}
 use Rattle.hive_pump.specs.Written.{AppendsPrefix}
-use Rattle.hive_top.specs.Answer.{Answer, CanRise, rose}
+use Rattle.hive_top.specs.Answer.{CanRise, rose}
 use Rattle.hive_top.specs.Called.{BearsOut, Called, IsAnswered, IsBrokenOff, Wrote}
 use Rattle.hive_top.specs.declared.status.Status.{Status}
 use Rattle.hive_top.specs.declared.status.Status.TheVariants as status
 
 -- below its last value a count tells whether there was a failure
-rose-is : (b : Bool) (before now : ℕ) → BearsOut b before now → CanRise now → rose before now ≡ b
+pub rose-is : (b : Bool) (before now : ℕ) → BearsOut b before now → CanRise now → rose before now ≡ b
 rose-is true before now h below = grind (arith, nat_tests)
 rose-is false before now h below = grind (arith, nat_tests)
 
@@ -19,7 +19,7 @@ rose-is false before now h below = grind (arith, nat_tests)
 not-calm : (before now : ℕ) → Rose before now → Calm before now → ⊥
 not-calm before now rose calm = omega (arith, rose.0, rose.1, calm.0, calm.1)
 
-prefix-whole : (old new : Option (List ℕ)) (text : List ℕ) → Appends old new text → AppendsPrefix old new text
+pub prefix-whole : (old new : Option (List ℕ)) (text : List ℕ) → Appends old new text → AppendsPrefix old new text
 prefix-whole old new text appends = record { front = text; back = []; whole = sym (append-nil text); bytes = appends }
 
 module _ (words : List (List ℕ)) (files : Option Files) (rest now got got' : Option (List ℕ)) (f f' s s' k k' : ℕ) where
@@ -66,15 +66,16 @@ module _ (words : List (List ℕ)) (files : Option Files) (rest now got got' : O
   pub output-cause : (ended : Status) → Called words files rest now got got' f f' s s' k k' ended → ended ≡ status.Output → Rose k k'
   output-cause ended c e = let wrote = rw e at c.wrote in wrote.1
 
-  pub failed-cause : (ended : Status) → Called words files rest now got got' f f' s s' k k' ended → k' ≢ k → ended ≡ status.Output
-  failed-cause ended c changed = by ended c.wrote
+  pub failed-cause : (ended : Status) → Called words files rest now got got' f f' s s' k k' ended → k' ≢ k →
+      ended ≢ status.NoMemory → ended ≡ status.Output
+  failed-cause ended c changed enough = by ended c.wrote enough
     where
-      by : (it : Status) → Wrote it got got' k k' c.answer → it ≡ status.Output
-      by status.Output wrote = refl
-      by status.NoMemory wrote = absurd (changed wrote.1)
-      by status.AllOk wrote = absurd (changed wrote.2)
-      by status.SomeNot wrote = absurd (changed wrote.2)
-      by status.Words wrote = absurd (changed wrote.2)
-      by status.Options wrote = absurd (changed wrote.2)
-      by status.Record wrote = absurd (changed wrote.2)
-      by status.Input wrote = absurd (changed wrote.2)
+      by : (it : Status) → Wrote it got got' k k' c.answer → it ≢ status.NoMemory → it ≡ status.Output
+      by status.Output wrote enough = refl
+      by status.NoMemory wrote enough = absurd (enough refl)
+      by status.AllOk wrote enough = absurd (changed wrote.2)
+      by status.SomeNot wrote enough = absurd (changed wrote.2)
+      by status.Words wrote enough = absurd (changed wrote.2)
+      by status.Options wrote enough = absurd (changed wrote.2)
+      by status.Record wrote enough = absurd (changed wrote.2)
+      by status.Input wrote enough = absurd (changed wrote.2)

@@ -1,7 +1,7 @@
 -- The job of a text that was fetched, and of one that is too long.
-use Rattle.std.proofs.Common.{◌≡◌, ◌≢◌, ℕ, ◌<◌, ◌≤◌, nat_le, true, false, List, length, Option, Some, None, Result, Ok, Err, refl, ap, sym, ◌∙◌, cond, arith}
+use Rattle.std.proofs.Common.{◌≡◌, ◌≢◌, ℕ, ◌<◌, ◌≤◌, nat_le, true, false, List, length, Option, Some, None, Result, Ok, Err, refl, ap, sym, ◌∙◌, arith}
 use Rattle.std.proofs.lemmas.Bool.Decides.{nat_tests}
-use Rattle.std.specs.Option.{IsSomeAnd, option_and_then, option_map}
+use Rattle.std.specs.Option.{IsSomeAnd, option_map}
 use Rattle.hive_edge.specs.Shelf.{Fetches, Files, text_of}
 use Rattle.hive_edge.specs.declared.shelf.ShelfFault.TheVariants.{Over}
 use Rattle.hive_model.specs.Job.{Job}

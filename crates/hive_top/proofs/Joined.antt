@@ -1,5 +1,5 @@
 -- Pieces that were appended one after another.
-use Rattle.std.proofs.Common.{◌≡◌, ℕ, List, ◌++◌, ap, sym, ◌∙◌, append_assoc}
+use Rattle.std.proofs.Common.{◌≡◌, ℕ, List, ◌++◌, ap, ◌∙◌, append_assoc}
 
 -- three pieces of two parts each, and a last one
 pub joined : (old one two three all w a v b u d last : List ℕ) → one ≡ old ++ (w ++ a) → two ≡ one ++ (v ++ b) → three ≡ two ++ (u ++ d) →

@@ -8,3 +8,4 @@ pub mod Jobs
 pub mod Runs
 -- pieces of a line
 pub mod Joined
+pub mod Journals

@@ -1,32 +1,54 @@
 -- What the run of a job came to, by its run and its last flush.
-use Rattle.std.proofs.Common.{◌≡◌, ◌⊎◌, inl, inr, ℕ, nat_eq, Bool, true, false, List, [], Option, Some, None, if◌then◌else◌, refl, sym, ap, ◌∙◌, append-nil}
+use Rattle.std.proofs.Common.{◌≡◌, ◌⊎◌, inl, inr, ℕ, nat_eq, Bool, true, false, List, [], Option, Some, None, if◌then◌else◌, length, refl, sym, subst, ◌∙◌, append-nil}
 use Rattle.std.proofs.KnownBytes.{Appends-kept, Appends-nil}
 use Rattle.std.specs.Io.KnownBytes.{Appends, Keeps}
+use Rattle.std.specs.Prelude.{IsSomeAnd}
 use Rattle.hive_edge.specs.Fault.{Rose}
 use Rattle.hive_model.specs.EventRecord.{EventRecord}
 use Rattle.hive_model.specs.Job.{Job}
+use Rattle.hive_model.specs.Machine.{Machine, opening}
+use Rattle.hive_model.specs.Replay.{IsAtEnd, IsCompleteRun, IsWholeRun, replay, replay_from}
+use Rattle.hive_model.specs.declared.entry.Entry.{Entry}
 use Rattle.hive_pump.specs.Pumped.{IsPumped}
 use Rattle.hive_pump.specs.Written.{AppendsPrefix, results, written}
 use Rattle.hive_pump.specs.declared.ending.Ending.{Ending}
 use Rattle.hive_pump.specs.declared.ending.Ending.TheVariants as ending
-use Rattle.hive_pump.proofs.Ends.{read-nothing}
+use Rattle.hive_pump.proofs.Stopping.{read-nothing}
 use Rattle.report_text.specs.Tallied.{CountsAll}
 use Rattle.report_text.specs.declared.counts.Counts.{Counts}
 use Rattle.text_model.specs.Whole.{Ending as Last, ReadToEnd, RefusedAt, SourceFailed}
 use Rattle.hive_top.specs.Answer.{status_of}
-use Rattle.hive_top.specs.RunsTo.{Flushes, RunsTo, WroteRun, status_by}
+use Rattle.hive_top.specs.RunsTo.{Flushes, JournalBy, RunsTo, WroteRun, status_by}
 use Rattle.hive_top.specs.declared.status.Status.{Status}
 use Rattle.hive_top.specs.declared.status.Status.TheVariants as status
 
 -- memory ran out before anything was read
-pub unread : (job : Job) (rest got : Option (List ℕ)) (s k : ℕ) → RunsTo job rest rest got got s s k k status.NoMemory
-unread job rest got s k = record {
+led-none : (job : Job) (slots : ℕ) → replay job slots [] [] ≡ Some (opening slots)
+unfolding replay replay_from
+led-none job slots = refl
+
+-- an empty journal is a run over no records
+pub empty-run : (job : Job) (slots : ℕ) (journal : List Entry) → journal ≡ [] → IsWholeRun job slots [] journal
+empty-run job slots journal e =
+    subst (λ l. IsWholeRun job slots [] l) (sym e)
+    (subst (λ o. IsSomeAnd o (λ (m : Machine). m.admitted ≡ 0)) (sym (led-none job slots)) refl)
+
+unread-so : (job : Job) (slots : ℕ) (rest got : Option (List ℕ)) (s k : ℕ) (journal : List Entry) → journal ≡ [] →
+    RunsTo job slots rest rest got got s s k k status.NoMemory journal
+unread-so job slots rest got s k journal empty = record {
   given = [];
   last = None;
   read = read-nothing job rest;
   source_count = refl;
-  wrote = (record { front = []; back = written job false [] None; whole = refl; bytes = Appends-nil got }, refl);
+  wrote = (record { front = []; back = written job false [] None; whole = refl; bytes = Appends-nil got }, inl refl);
+  run = empty-run job slots journal empty;
 }
+
+pub unread : (job : Job) (slots : ℕ) (rest got : Option (List ℕ)) (s k : ℕ) (ended : Status) (journal : List Entry) →
+    ended ≡ status.NoMemory → journal ≡ [] → RunsTo job slots rest rest got got s s k k ended journal
+unread job slots rest got s k ended journal e empty =
+    subst (λ x. RunsTo job slots rest rest got got s s k k x journal) (sym e)
+    (unread-so job slots rest got s k journal empty)
 
 -- the prefix stays where nothing more is written
 prefix-same : (old mid new : Option (List ℕ)) (text : List ℕ) → AppendsPrefix old mid text → new ≡ mid → AppendsPrefix old new text
@@ -82,45 +104,75 @@ not-memory counts = by (nat_eq counts.ok counts.events)
     by true e = cc
     by false e = cc
 
+-- a complete run is a run over all its records
+whole : (job : Job) (slots : ℕ) (given : List EventRecord) (journal : List Entry) → IsCompleteRun job slots given journal →
+    IsWholeRun job slots given journal
+whole job slots given journal h = by (replay job slots given journal) h
+  where
+    by : (o : Option Machine) → IsSomeAnd o (IsAtEnd given) → IsSomeAnd o (λ (m : Machine). m.admitted ≡ length given)
+    by (Some m) it = it.all
+    by None it = absurd it
+
+-- so it serves each status
+completed : (job : Job) (slots : ℕ) (given : List EventRecord) (journal : List Entry) (after : Status) →
+    IsCompleteRun job slots given journal → JournalBy after job slots given journal
+completed job slots given journal status.NoMemory h = whole job slots given journal h
+completed job slots given journal status.Output h = h
+completed job slots given journal status.AllOk h = h
+completed job slots given journal status.SomeNot h = h
+completed job slots given journal status.Words h = h
+completed job slots given journal status.Options h = h
+completed job slots given journal status.Record h = h
+completed job slots given journal status.Input h = h
+
 -- a run, and its flush
-pub run-of : (job : Job) (rest now old mid new : Option (List ℕ)) (s s' k k₁ k₂ : ℕ) (ended : Ending) (counts : Counts) (after : Status) →
-    IsPumped job false rest now old mid s s' k k₁ ended counts → Flushes mid new k₁ k₂ (status_by ended counts) after →
-    RunsTo job rest now old new s s' k k₂ after
-run-of job rest now old mid new s s' k k₁ k₂ ending.Sink counts after p (e, same, still) = record {
+pub run-of : (job : Job) (slots : ℕ) (rest now old mid new : Option (List ℕ)) (s s' k k₁ k₂ : ℕ) (ended : Ending)
+    (counts : Counts) (journal : List Entry) (after : Status) →
+    IsPumped job slots false rest now old mid s s' k k₁ ended counts journal →
+    Flushes mid new k₁ k₂ (status_by ended counts) after → RunsTo job slots rest now old new s s' k k₂ after journal
+run-of job slots rest now old mid new s s' k k₁ k₂ ending.Sink counts journal after p (e, same, still) = record {
   given = p.given;
   last = p.last;
   read = p.read;
   source_count = p.source_count;
   wrote = rw (e, still) (prefix-same old mid new (written job false p.given p.last) p.bytes same, p.sink_count);
+  run = completed job slots p.given journal after p.run;
 }
-run-of job rest now old mid new s s' k k₁ k₂ ending.NoMemory counts after p (e, same, still) = record {
+run-of job slots rest now old mid new s s' k k₁ k₂ ending.NoMemory counts journal after p (e, same, still) = record {
   given = p.given;
   last = p.last;
   read = p.read;
   source_count = p.source_count;
-  wrote = rw e (prefix-same old mid new (written job false p.given p.last) p.bytes same, still ∙ p.sink_count);
+  wrote = rw e (
+    prefix-same old mid new (written job false p.given p.last) p.bytes same,
+    subst (λ n. (n ≡ k) ⊎ Rose k n) (sym still) p.sink_count,
+  );
+  run = rw e p.run;
 }
-run-of job rest now old mid new s s' k k₁ k₂ ending.All counts after p f = record {
+run-of job slots rest now old mid new s s' k k₁ k₂ ending.All counts journal after p f = record {
   given = p.given;
   last = p.last;
   read = p.read;
   source_count = p.source_count;
   wrote = after-flush job p.given p.last ReadToEnd p.ends old mid new k k₁ k₂ p.bytes p.sink_count (status_by ending.All counts) after
       (by-counts job p.given counts p.counted) (not-output counts) (not-memory counts) f;
+  run = completed job slots p.given journal after p.run;
 }
-run-of job rest now old mid new s s' k k₁ k₂ (ending.Refused refusal) counts after p f = record {
+run-of job slots rest now old mid new s s' k k₁ k₂ (ending.Refused refusal) counts journal after p f = record {
   given = p.given;
   last = p.last;
   read = p.read;
   source_count = p.source_count;
   wrote = after-flush job p.given p.last (RefusedAt refusal) p.ends old mid new k k₁ k₂ p.bytes p.sink_count status.Record after
       refl (λ e. cc) (λ e. cc) f;
+  run = completed job slots p.given journal after p.run;
 }
-run-of job rest now old mid new s s' k k₁ k₂ ending.Source counts after p f = record {
+run-of job slots rest now old mid new s s' k k₁ k₂ ending.Source counts journal after p f = record {
   given = p.given;
   last = p.last;
   read = p.read;
   source_count = p.source_count;
   wrote = after-flush job p.given p.last SourceFailed p.ends old mid new k k₁ k₂ p.bytes p.sink_count status.Input after
       refl (λ e. cc) (λ e. cc) f;
+  run = completed job slots p.given journal after p.run;
 }

@@ -1,6 +1,6 @@
 -- What a call owes where files and source tell what they hold: a text, and the status that goes with it. The causes stand in
 -- the order words, files, options, and then the input; a failure of the files or the source takes the place of what follows it.
-use Rattle.std.specs.Prelude.{◌≡◌, ℕ, ◌-◌, ◌^◌, ◌<◌, nat_eq, nat_le, Bool, true, false, not, if◌then◌else◌, List, length, MatchOption, Option, Some, None, Result, Ok, Err, IfSome}
+use Rattle.std.specs.Prelude.{◌≡◌, ℕ, ◌-◌, ◌^◌, ◌<◌, nat_eq, nat_le, Bool, true, false, not, if◌then◌else◌, List, length, MatchOption, Option, None, Result, Ok, Err, IfSome}
 use Rattle.std.specs.Io.KnownBytes.{Consumes}
 use Rattle.std.specs.Option.{option_and_then, option_map, option_map_or}
 use Rattle.hive_edge.specs.Shelf.{Files, text_of as text_named}

@@ -22,7 +22,8 @@ BearsOut false before now = now ≡ before
 -- The text of an answer was written with its status. A prefix of it was, where the sink failed or memory ran out.
 abbrev pub Wrote : Status → Option (List ℕ) → Option (List ℕ) → ℕ → ℕ → Answer → Type 0
 Wrote status.Output got got_now sink sink_now a = AppendsPrefix got got_now a.text × Rose sink sink_now
-Wrote status.NoMemory got got_now sink sink_now a = AppendsPrefix got got_now a.text × (sink_now ≡ sink)
+Wrote status.NoMemory got got_now sink sink_now a =
+    AppendsPrefix got got_now a.text × ((sink_now ≡ sink) ⊎ Rose sink sink_now)
 Wrote other got got_now sink sink_now a = Appends got got_now a.text × (other ≡ a.status) × (sink_now ≡ sink)
 
 pub record Called (words : List (List ℕ)) (files : Option Files) (rest now got got_now : Option (List ℕ)) (shelf_before shelf_now source_before source_now sink_before sink_now : ℕ) (ended : Status) : Type 0 where

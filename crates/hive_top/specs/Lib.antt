@@ -6,3 +6,4 @@ pub mod Answer
 pub mod Called
 pub mod RunsTo
 pub mod Works
+pub mod Journals

@@ -1,5 +1,6 @@
 //! The job of a file of options.
 ghost use Rattle.std.specs.Prelude.{◌≡◌, ◌≤◌, Err, IfOk, Some, length};
+ghost use Rattle.event_laws.specs.Uncut.{HasNoCut};
 ghost use Rattle.hive_model.specs.Valid.{IsValidJob};
 ghost use Rattle.text_model.specs.declared.limits.TheConstants.{MOST_OPTIONS_BYTES};
 ghost use Rattle.hive_top.specs.Answer.{file_job, named_job};
@@ -19,6 +20,7 @@ pub fn job_named<F: Shelf>(alloc: Global, name: &str, shelf: &mut F) -> Result<J
     ensures job { ReadsJob (named_job name.now (F.files shelf.old)) result }
     ensures count { CountsShelf result (F.faults shelf.old) (F.faults shelf.new) }
     ensures valid { IfOk result IsValidJob }
+    ensures uncut { IfOk result HasNoCut }
     ensures no_words { result ≡ Err stop.Words → ⊥ }
 {
     let mut options = Vec::new(alloc);
@@ -35,6 +37,7 @@ fn job_of_text(alloc: Global, text: &[u8]) -> Result<Job, Stop>
     requires { length text.now ≤ MOST_OPTIONS_BYTES }
     ensures job { ReadsJob (Some (file_job text.now)) result }
     ensures valid { IfOk result IsValidJob }
+    ensures uncut { IfOk result HasNoCut }
     ensures of_text { IsOfText result }
 {
     match build(alloc, text) {

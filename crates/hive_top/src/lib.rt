@@ -7,11 +7,14 @@
 
 mod job;
 mod job_line;
+mod ran;
 mod run;
 mod status;
 mod stop;
 mod top;
 mod words;
 
+pub use ran::Ran;
+pub use run::SLOTS;
 pub use status::Status;
-pub use top::{Ran, hive_plain};
+pub use top::hive_plain;

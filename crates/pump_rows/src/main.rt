@@ -12,7 +12,8 @@ mod run;
 
 ghost use Rattle.std.specs.Prelude.{◌<◌, IfOk, IfSome};
 ghost use Rattle.std.specs.Arc.{arc_value};
-ghost use Rattle.hive_model.specs.Runnable.{IsRunnable};
+ghost use Rattle.event_laws.specs.Uncut.{HasNoCut};
+ghost use Rattle.hive_model.specs.Valid.{IsValidJob};
 
 use anyhow::bail;
 use case::{Case, case_of};
@@ -32,7 +33,8 @@ fn main(rt: HostRuntime) -> anyhow::Result<()> {
 }
 
 fn job_of(alloc: Global, options: &[u8]) -> Result<Option<Arc<Job>>, AllocError>
-    ensures { IfOk result (λ o. IfSome o (λ it. IsRunnable (arc_value it))) }
+    ensures valid { IfOk result (λ o. IfSome o (λ it. IsValidJob (arc_value it))) }
+    ensures uncut { IfOk result (λ o. IfSome o (λ it. HasNoCut (arc_value it))) }
 {
     match build(alloc, options) {
         Ok(job) => Ok(Some(Arc::new(alloc, job)?)),
@@ -41,7 +43,8 @@ fn job_of(alloc: Global, options: &[u8]) -> Result<Option<Arc<Job>>, AllocError>
 }
 
 fn print_rows(rt: &HostRuntime, job: &Arc<Job>) -> anyhow::Result<()>
-    requires { IsRunnable (arc_value job.now) }
+    requires valid { IsValidJob (arc_value job.now) }
+    requires uncut { HasNoCut (arc_value job.now) }
 {
     let mut count: u64 = 0;
     for line in rt.lines(rt.alloc()) {
@@ -59,7 +62,8 @@ fn print_rows(rt: &HostRuntime, job: &Arc<Job>) -> anyhow::Result<()>
 }
 
 fn print_case(rt: &HostRuntime, job: &Arc<Job>, case: &Case) -> anyhow::Result<()>
-    requires runnable { IsRunnable (arc_value job.now) }
+    requires valid { IsValidJob (arc_value job.now) }
+    requires uncut { HasNoCut (arc_value job.now) }
     requires piece { 0 < case.now.piece }
     requires takes { 0 < case.now.takes }
 {

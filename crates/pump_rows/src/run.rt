@@ -1,7 +1,8 @@
 //! A run over a source and a sink in memory.
 ghost use Rattle.std.specs.Prelude.{◌<◌};
 ghost use Rattle.std.specs.Arc.{arc_value};
-ghost use Rattle.hive_model.specs.Runnable.{IsRunnable};
+ghost use Rattle.event_laws.specs.Uncut.{HasNoCut};
+ghost use Rattle.hive_model.specs.Valid.{IsValidJob};
 
 use crate::case::Case;
 use hive_edge::{MemSink, MemSource};
@@ -20,7 +21,8 @@ pub(crate) fn pumped(
     job: &Arc<Job>,
     case: &Case,
 ) -> Result<(Ending, Counts, String), AllocError>
-    requires runnable { IsRunnable (arc_value job.now) }
+    requires valid { IsValidJob (arc_value job.now) }
+    requires uncut { HasNoCut (arc_value job.now) }
     requires piece { 0 < case.now.piece }
     requires takes { 0 < case.now.takes }
 {

@@ -1,6 +1,5 @@
-use Rattle.std.proofs.Common.{◌≡◌, inr, ℕ, List, [], take, ap, subst, append-nil, arith}
+use Rattle.std.proofs.Common.{◌≡◌, inr, [], append-nil, arith}
 use Rattle.std.proofs.lemmas.Bool.Decides.{nat_tests}
-use Rattle.std.specs.Io.KnownBytes.{Consumes}
 use Rattle.hive_pump.proofs.run.read_on.Goals as goal
 
 pub returns-in-Ok-eq0 : goal.returns-in-Ok-eq0

@@ -1,4 +1,3 @@
-use Rattle.std.proofs.Common.{Err, sym, ap, subst}
 use Rattle.hive_top.proofs.Jobs.{reads-built, reads-refused, refused-of-text}
 use Rattle.hive_top.proofs.job.job_of_text.Goals as goal
 
