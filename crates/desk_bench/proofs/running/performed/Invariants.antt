@@ -1,0 +1,4 @@
+use Rattle.desk_bench.proofs.running.performed.Given as goal
+
+abbrev pub ghosts-spend : goal.ghosts-spend
+ghosts-spend a = record { name = a.blank.name; parts = a.blank.parts }
