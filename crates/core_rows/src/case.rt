@@ -33,7 +33,7 @@ pub(crate) fn case_of(alloc: Global, line: &str) -> Result<Option<Case<'_>>, All
 pub(crate) struct Trials<'a> {
     /// What it shows.
     pub(crate) name: &'a str,
-    pub(crate) seed: u64,
+    pub(crate) start: u64,
     pub(crate) jobs: u64,
     /// How many for each job.
     pub(crate) events: u64,
@@ -42,12 +42,12 @@ pub(crate) struct Trials<'a> {
 /// The trials of a line, or `None` where the line has none.
 pub(crate) fn trials_of(alloc: Global, line: &str) -> Result<Option<Trials<'_>>, AllocError> {
     let parts: Vec<&str> = line.split('|').collect(alloc)?;
-    let [name, seed, jobs, events] = parts.as_slice() else {
+    let [name, start, jobs, events] = parts.as_slice() else {
         return Ok(None);
     };
     Ok(Some(Trials {
         name: name.trim(),
-        seed: number_of(seed),
+        start: number_of(start),
         jobs: number_of(jobs),
         events: number_of(events),
     }))

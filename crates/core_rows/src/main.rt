@@ -4,7 +4,7 @@
 //! A row has five parts with `|` between: what it shows; the job's options, a file of data/; the number of slots; records,
 //! with `;` between, which `records` tells; and calls with `;` between, which `calls` tells.
 //!
-//! A row of four parts is what it shows, a seed, a number of jobs and a number of events for each: `trial` tells it.
+//! A row of four parts is what it shows, a start, a number of jobs and a number of events for each: `trial` tells it.
 #![tactic(auto)]
 
 mod calls;

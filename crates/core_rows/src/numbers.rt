@@ -8,9 +8,9 @@ pub(crate) struct Numbers {
 }
 
 impl Numbers {
-    /// The numbers that follow from a seed.
-    pub(crate) fn new(seed: u64) -> Numbers {
-        Numbers { state: seed }
+    /// The numbers that follow from a start.
+    pub(crate) fn new(start: u64) -> Numbers {
+        Numbers { state: start }
     }
 
     fn step(&mut self) {

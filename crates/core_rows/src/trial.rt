@@ -24,7 +24,7 @@ use std::sync::Arc;
 pub(crate) fn trials_text(alloc: Global, trials: &Trials<'_>) -> Result<String, AllocError> {
     let mut counts = Counts::new();
     for number in 0..trials.jobs {
-        let mut numbers = Numbers::new(trials.seed.wrapping_mul(1_000_003).wrapping_add(number));
+        let mut numbers = Numbers::new(trials.start.wrapping_mul(1_000_003).wrapping_add(number));
         let options = options(alloc, &mut numbers)?;
         match build(alloc, options.as_str().as_bytes()) {
             Ok(job) => trial(alloc, &mut numbers, job, trials.events, &mut counts)?,
