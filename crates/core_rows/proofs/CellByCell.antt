@@ -1,5 +1,6 @@
 -- The cells of a record, one after another.
-use Rattle.std.proofs.Common.{◌≡◌, ◌<◌, ◌+◌, ℕ, List, ◌∷◌, length, get_or, drop, ap, sym, subst, ◌∙◌, Option, Some, None}
+use Rattle.std.proofs.Common.{◌≡◌, ◌<◌, ◌+◌, ℕ, List, ◌∷◌, length, get_or, drop, ap, sym, subst, ◌∙◌}
+use Rattle.std.proofs.Common.{Option, Some, None}
 use Rattle.std.specs.Prelude.{MatchOption}
 use Rattle.std.proofs.lemmas.List.{drop_more}
 use Rattle.hive_model.specs.Fits.{AreCellsOf, IsOfKind}
@@ -7,7 +8,8 @@ use Rattle.hive_model.specs.declared.algorithm.Raw.{Raw}
 use Rattle.hive_model.specs.declared.product.Product.{Product}
 
 one-more : (r : Raw) (cell : Option Product) (raws : List Raw) (cells : List (Option Product)) →
-    MatchOption cell (Unit {0}) (IsOfKind r.kind) → AreCellsOf raws cells → AreCellsOf (r ∷ raws) (cell ∷ cells)
+    MatchOption cell (Unit {0}) (IsOfKind r.kind) → AreCellsOf raws cells →
+    AreCellsOf (r ∷ raws) (cell ∷ cells)
 one-more r (Some p) raws cells is rest = (is, rest)
 one-more r None raws cells is rest = rest
 

@@ -1,5 +1,5 @@
 -- A desk of a job, and claims that are held of desks of that job.
-use Rattle.std.specs.Prelude.{◌≡◌, List, Option}
+use Rattle.std.specs.Prelude.{◌≡◌, List}
 use Rattle.std.specs.List.{AllByRecursion}
 use Rattle.expr_code.specs.Claim.{Claim as Work, IsOfJob}
 use Rattle.hive_model.specs.History.{DeskState}

@@ -1,18 +1,19 @@
 //! The calls of a row.
 //!
-//! `admit N` brings the record at place N, and `claim W` asks for work for worker W; a claim is told by its ticket, its
-//! algorithm, the place of its event and its instance, `-` for none. `done T` performs the held claim with ticket T and
-//! books it, `back T` puts it back, `inputs T` gives its inputs. `made done T A I N` and `made back T A I N` do it with
-//! a claim that is made by hand: with ticket T, algorithm A and instance I, over the products of the event of record N.
-//! `run W` claims, performs and books until nothing can be claimed, and gives how many it were.
+//! `admit N` brings the record at place N, and `claim W` asks for work for worker W; a claim is told by its
+//! ticket, its algorithm, the place of its event and its instance, `-` for none. `done T` performs the held
+//! claim with ticket T and books it, `back T` puts it back, `inputs T` gives its inputs. `made done T A I N`
+//! and `made back T A I N` do it with a claim that is made by hand: with ticket T, algorithm A and instance
+//! I, over the products of the event of record N. `run W` claims, performs and books until nothing can be
+//! claimed, and gives how many it were.
 //!
-//! `retire`, `recall`, `last`, `slots`, `admitted` and `journal` are the desk's calls. `entry` gives the journal's last
-//! entry, and `result` what the event that ended last came to: the decisions, the ends and the store. `anew` puts a new
-//! desk in the place of this one, and gives the journal of this one.
+//! `retire`, `recall`, `last`, `slots`, `admitted` and `journal` are the desk's calls. `entry` gives the
+//! journal's last entry, and `result` what the event that ended last came to: the decisions, the ends and the
+//! store. `anew` puts a new desk in the place of this one, and gives the journal of this one.
 //!
-//! `any` behind a call leaves out what the rules leave free: the slot of `admit`, the algorithm and the instance of
-//! `claim`, the event of `retire`.
-ghost use Rattle.core_rows.specs.Hands.{IsDeskOf, IsHandOf};
+//! `any` behind a call leaves out what the rules leave free: the slot of `admit`, the algorithm and the
+//! instance of `claim`, the event of `retire`.
+ghost use Rattle.core_rows.specs.Hands.{IsHandOf};
 ghost use Rattle.expr_code.specs.Claim.{IsOfJob};
 ghost use Rattle.hive_model.specs.Valid.{IsValidJob};
 

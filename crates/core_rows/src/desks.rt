@@ -1,7 +1,8 @@
 //! The calls of a desk whose job is known.
 //!
-//! Each is the desk's own call. Beside what that says, the job stays the desk's, and what is handed out is of it.
-ghost use Rattle.std.specs.Prelude.{◌≡◌, ◌≤◌, IfOk};
+//! Each is the desk's own call. Beside what that says, the job stays the desk's, and what it hands out is
+//! of that job.
+ghost use Rattle.std.specs.Prelude.{◌≤◌, IfOk};
 ghost use Rattle.std.specs.Arc.{arc_value};
 ghost use Rattle.core_rows.specs.Hands.{HandsOut, IsDeskOf};
 ghost use Rattle.expr_code.specs.Claim.{IsOfJob};

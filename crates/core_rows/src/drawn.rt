@@ -1,8 +1,8 @@
 //! Options that are drawn by lot.
 //!
-//! A job has one to three raw handles, up to two resources, two to eight algorithms and up to six sequences. Handles are
-//! called `h0`, `h1` and so on, in the order in which they are written. Most inputs are handles before their algorithm; one
-//! that isn't may make a circle, so some options are refused.
+//! A job has one to three raw handles, up to two resources, two to eight algorithms and up to six sequences.
+//! Handles are called `h0`, `h1` and so on, in the order in which they are written. Most inputs are handles
+//! before their algorithm; one that isn't may make a circle, so some options are refused.
 use crate::numbers::Numbers;
 use std::alloc::{AllocError, Global};
 
@@ -17,20 +17,40 @@ const OF_LISTS: [&str; 4] = ["above(", "scale(", "shift(", "first("];
 /// An options text.
 pub(crate) fn options(alloc: Global, numbers: &mut Numbers) -> Result<String, AllocError> {
     let mut text = String::from_str(alloc, "top = \"S0\"\n")?;
-    let mut lists = Vec::new(alloc);
-    put_raws(&mut text, numbers, &mut lists)?;
-    let resources = numbers.below(3);
-    put_resources(&mut text, numbers, resources)?;
-    let algorithms = numbers.below(7).saturating_add(2);
-    for number in 0..algorithms {
-        put_algorithm(alloc, &mut text, numbers, &mut lists, number, resources)?;
-    }
-    let sequences = numbers.below(6).saturating_add(1);
-    let homes = homes(alloc, numbers, algorithms, sequences)?;
-    for number in 0..sequences {
-        put_sequence(&mut text, numbers, homes.as_slice(), algorithms, number)?;
-    }
+    let algorithms = put_algorithms(alloc, &mut text, numbers)?;
+    put_sequences(alloc, &mut text, numbers, algorithms)?;
     Ok(text)
+}
+
+// All but the sequences; gives the number of algorithms.
+fn put_algorithms(
+    alloc: Global,
+    text: &mut String,
+    numbers: &mut Numbers,
+) -> Result<u64, AllocError> {
+    let mut lists = Vec::new(alloc);
+    put_raws(text, numbers, &mut lists)?;
+    let resources = numbers.below(3);
+    put_resources(text, numbers, resources)?;
+    let count = numbers.below(7).saturating_add(2);
+    for number in 0..count {
+        put_algorithm(alloc, text, numbers, &mut lists, number, resources)?;
+    }
+    Ok(count)
+}
+
+fn put_sequences(
+    alloc: Global,
+    text: &mut String,
+    numbers: &mut Numbers,
+    algorithms: u64,
+) -> Result<(), AllocError> {
+    let count = numbers.below(6).saturating_add(1);
+    let homes = homes(alloc, numbers, algorithms, count)?;
+    for number in 0..count {
+        put_sequence(text, numbers, homes.as_slice(), algorithms, number)?;
+    }
+    Ok(())
 }
 
 // A raw handle is a list or a number; `lists` says which for each handle so far.
@@ -73,24 +93,50 @@ fn put_algorithm(
     resources: u64,
 ) -> Result<(), AllocError> {
     let inputs = inputs(alloc, numbers, lists.len() as u64)?;
+    put_head(text, numbers, number, inputs.as_slice())?;
+    put_needed(text, numbers, resources)?;
+    put_filter(text, numbers, inputs.as_slice(), lists.as_slice())?;
+    put_outputs(text, numbers, inputs.as_slice(), lists)
+}
+
+fn put_head(
+    text: &mut String,
+    numbers: &mut Numbers,
+    number: u64,
+    inputs: &[u64],
+) -> Result<(), AllocError> {
     let cardinality = numbers.below(3);
-    write!(
-        text,
-        "[[algorithm]]\nname = \"A{number}\"\ncardinality = {cardinality}\n"
-    )?;
-    text.push_str("inputs = [")?;
-    for input in &inputs {
+    write!(text, "[[algorithm]]\nname = \"A{number}\"\n")?;
+    write!(text, "cardinality = {cardinality}\ninputs = [")?;
+    for input in inputs {
         write!(text, "\"h{input}\", ")?;
     }
-    text.push_str("]\nresources = [")?;
-    put_needed(text, numbers, resources)?;
-    text.push_str("]\n")?;
-    if !numbers.one_of(4) {
-        text.push_str("filter = \"")?;
-        put_comparison(text, numbers, inputs.as_slice(), lists.as_slice())?;
-        text.push_str("\"\n")?;
+    text.push_str("]\n")
+}
+
+fn put_needed(text: &mut String, numbers: &mut Numbers, resources: u64) -> Result<(), AllocError> {
+    text.push_str("resources = [")?;
+    for resource in 0..resources {
+        if numbers.one_of(3) {
+            write!(text, "\"R{resource}\", ")?;
+        }
     }
-    put_outputs(text, numbers, inputs.as_slice(), lists)
+    text.push_str("]\n")
+}
+
+// A filter, for three of four.
+fn put_filter(
+    text: &mut String,
+    numbers: &mut Numbers,
+    inputs: &[u64],
+    lists: &[bool],
+) -> Result<(), AllocError> {
+    if numbers.one_of(4) {
+        return Ok(());
+    }
+    text.push_str("filter = \"")?;
+    put_comparison(text, numbers, inputs, lists)?;
+    text.push_str("\"\n")
 }
 
 // Some of the handles so far, and now and then one behind them.
@@ -105,15 +151,6 @@ fn inputs(alloc: Global, numbers: &mut Numbers, known: u64) -> Result<Vec<u64>, 
         inputs.push(known.saturating_add(numbers.below(4)))?;
     }
     Ok(inputs)
-}
-
-fn put_needed(text: &mut String, numbers: &mut Numbers, resources: u64) -> Result<(), AllocError> {
-    for resource in 0..resources {
-        if numbers.one_of(3) {
-            write!(text, "\"R{resource}\", ")?;
-        }
-    }
-    Ok(())
 }
 
 fn put_outputs(
@@ -229,8 +266,8 @@ fn put_list(
     write!(text, "{})", numbers.below(4))
 }
 
-// For each algorithm and then each sequence the sequences that it is a member of, of which there are so many: one, and for
-// an algorithm maybe a second one. The top is a member of none.
+// For each algorithm and then each sequence the sequences that it is a member of, of which there are so many:
+// one, and for an algorithm maybe a second one. The top is a member of none.
 fn homes(
     alloc: Global,
     numbers: &mut Numbers,

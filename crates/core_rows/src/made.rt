@@ -14,8 +14,8 @@ use hive_model::{Algorithm, Duplicate, EventRecord, Job, Lent, Scratch, Store};
 use std::alloc::{AllocError, Global};
 use std::sync::Arc;
 
-/// A claim made by hand: words 2 to 5 are its ticket, its algorithm, its instance, and the record over whose products
-/// it is. `None` where there is no such algorithm or record.
+/// A claim made by hand: words 2 to 5 are its ticket, its algorithm, its instance, and the record over whose
+/// products it is. `None` where there is no such algorithm or record.
 pub(crate) fn made(
     alloc: Global,
     job: &Job,

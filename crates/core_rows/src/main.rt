@@ -1,10 +1,11 @@
-//! Rows of the scheduler: each line of the input is a job, some records and calls of a desk, and what is printed for it is
-//! what the calls answered. `stdout` holds what docs/PROCESSING.md and docs/FORMATS.md say.
+//! Rows of the scheduler: each line of the input is a job, some records and calls of a desk, and what is
+//! printed for it is what the calls answered. `stdout` holds what docs/PROCESSING.md and docs/FORMATS.md say.
 //!
-//! A row has five parts with `|` between: what it shows; the job's options, a file of data/; the number of slots; records,
-//! with `;` between, which `records` tells; and calls with `;` between, which `calls` tells.
+//! A row has five parts with `|` between: what it shows; the job's options, a file of data/; the number of
+//! slots; records, with `;` between, which `records` tells; and calls with `;` between, which `calls` tells.
 //!
-//! A row of four parts is what it shows, a start, a number of jobs and a number of events for each: `trial` tells it.
+//! A row of four parts is what it shows, a start, a number of jobs and a number of events for each: `trial`
+//! tells it.
 #![tactic(auto)]
 
 mod calls;
@@ -26,7 +27,6 @@ mod trial;
 mod words;
 
 use case::{Case, case_of, trials_of};
-use hive_model::Job;
 use job_build::build;
 use row::row_text;
 use std::fs;

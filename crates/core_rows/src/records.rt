@@ -2,8 +2,8 @@
 use hive_model::{EventRecord, Ints, Job, Kind, MOST_NUMBERS, Many, Product, Raw};
 use std::alloc::{AllocError, Global};
 
-/// The records of lines with `;` between. The cells of a line have commas between: first the event's number, and then
-/// one for each raw handle, `?` where it is absent, a number, or numbers with spaces between.
+/// The records of lines with `;` between. The cells of a line have commas between: first the event's number,
+/// and then one for each raw handle, `?` where it is absent, a number, or numbers with spaces between.
 pub(crate) fn records_of(
     alloc: Global,
     job: &Job,

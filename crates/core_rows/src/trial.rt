@@ -1,7 +1,7 @@
 //! Jobs that are drawn by lot, on a desk that is called by lot.
 //!
-//! Events are admitted, algorithms claimed, booked, put back and recalled, and events retired, in an order that is drawn,
-//! until all is over. Each result must be the one that its record has by itself.
+//! Events are admitted, algorithms claimed, booked, put back and recalled, and events retired, in an order
+//! that is drawn, until all is over. Each result must be the one that its record has by itself.
 ghost use Rattle.std.specs.Prelude.{◌≤◌};
 ghost use Rattle.std.specs.Arc.{arc_value};
 ghost use Rattle.core_rows.specs.Hands.{IsHandOf};

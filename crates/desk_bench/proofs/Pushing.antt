@@ -1,5 +1,6 @@
 -- A cell more, for a raw handle more.
-use Rattle.std.proofs.Common.{◌≡◌, ◌<◌, ◌+◌, ℕ, List, [], ◌∷◌, ◌++◌, length, get_or, take, ap, sym, subst, ◌∙◌, Option, Some, None}
+use Rattle.std.proofs.Common.{◌≡◌, ◌<◌, ◌+◌, ℕ, List, [], ◌∷◌, ◌++◌, length, get_or, take}
+use Rattle.std.proofs.Common.{ap, sym, subst, ◌∙◌, Option, Some, None}
 use Rattle.std.proofs.lemmas.List.{take_more}
 use Rattle.hive_model.specs.Fits.{AreCellsOf, IsOfKind}
 use Rattle.hive_model.specs.declared.algorithm.Raw.{Raw}

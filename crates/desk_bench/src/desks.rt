@@ -1,6 +1,7 @@
 //! The calls of a desk whose job is known.
 //!
-//! Each is the desk's own call. Beside what that says, the job stays the desk's, and what is handed out is of it.
+//! Each is the desk's own call. Beside what that says, the job stays the desk's, and what it hands out is
+//! of that job.
 ghost use Rattle.std.specs.Prelude.{IfOk};
 ghost use Rattle.std.specs.Arc.{arc_value};
 ghost use Rattle.desk_bench.specs.Waiting.{HandsOut, IsDeskOf};

@@ -1,8 +1,9 @@
 //! Times a desk beside the plain evaluation of the same events, for `bench/core`.
 //!
-//! With an options file and a number it makes so many records of that job, runs their events through a desk with four
-//! slots, and prints what an event and what a claim took; then what it takes to evaluate each record by itself. Without
-//! words it runs some events of the job in data/, and says whether each has the result that its record has by itself.
+//! With an options file and a number it makes so many records of that job, runs their events through a desk
+//! with four slots, and prints what an event and what a claim took; then what it takes to evaluate each
+//! record by itself. Without words it runs some events of the job in data/, and says whether each has the
+//! result that its record has by itself.
 #![tactic(auto)]
 
 ghost use Rattle.std.specs.Arc.{arc_value};

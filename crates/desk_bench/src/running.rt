@@ -1,7 +1,6 @@
 //! Events through a desk.
 ghost use Rattle.std.specs.Prelude.{◌≡◌, ◌<◌, IfOk};
 ghost use Rattle.desk_bench.specs.Waiting.{AreFitting, IsDeskOf};
-ghost use Rattle.expr_code.specs.Claim.{IsOfJob};
 ghost use Rattle.hive_model.specs.Fits.{Fits};
 ghost use Rattle.hive_model.specs.Valid.{IsValidJob};
 
