@@ -1,10 +1,11 @@
 -- Sets of numbers as bits of words.
-use Rattle.std.proofs.Common.{◌≡◌, ◌≢◌, ℕ, ◌+◌, ◌-◌, ◌*◌, ◌/◌, ◌%◌, ◌^◌, ◌<◌, ◌≤◌, true, false, ◌||◌, ◌&&◌, ◌⊎◌, inl, inr, ⊎_elim, not, nat_eq, zero, suc, List, length, get_or, set, replicate, min, refl, sym, ap, ◌∙◌, get_or-set_same, get_or-set_other, arith}
+use Rattle.std.proofs.Common.{◌≡◌, ◌≢◌, ℕ, ◌+◌, ◌-◌, ◌*◌, ◌/◌, ◌%◌, ◌^◌, ◌<◌, ◌≤◌, true, false, ◌||◌, ◌&&◌, ◌⊎◌, inl, inr, ⊎_elim, not, nat_eq, Option, Some, None, MatchOption, zero, suc, List, length, get_or, set, replicate, min, refl, sym, ap, ◌∙◌, get_or-set_same, get_or-set_other, arith}
 use Rattle.std.specs.Int.{bit_at, bit_not, w64, trailing_zeros}
-use lib.Bits.{bit_and}
+use lib.Bits.{bit_and, bit_or}
 use Rattle.std.proofs.lemmas.Bool.{cases_lt, ne_eqb}
 use Rattle.std.proofs.lemmas.Bool.Decides.{eqb_tells}
 use Rattle.std.proofs.lemmas.List.{get_or_past}
+use Rattle.std.proofs.lemmas.Nat.{le_or_l, le_or_r}
 use Rattle.std.proofs.lemmas.Nat.Bits.{bit_at-zero, bit_at_and, bit_at_not, bit_at-lt, bit_at_above, bit_at_mask_below, bit_at_mask_inside, bit_at-trailing_zeros, ones_shl}
 use Rattle.number_set.specs.Numbers.{has_bit}
 
@@ -239,3 +240,60 @@ no_more_numbers words from place long so_far n h = by (cases_lt n (64 * place))
     by : (n < 64 * place) ⊎ (64 * place ≤ n) → has_bit (get_or words (n / 64) 0) (n % 64) ≡ false
     by (inl less) = so_far n h less
     by (inr up) = ap (λ w. has_bit w (n % 64)) (get_or_past words (n / 64) 0 (omega arith)) ∙ bit_of_zero (n % 64)
+
+-- the words after the first
+
+pub one_more_word : (words : List ℕ) (place others : ℕ) → ((p : ℕ) → 1 ≤ p → p < place → get_or words p 0 ≤ others) →
+    (p : ℕ) → 1 ≤ p → p < place + 1 → get_or words p 0 ≤ bit_or others (get_or words place 0)
+one_more_word words place others so_far p some lt = by (eqb_tells p place)
+  where
+    by : ((nat_eq p place ≡ true) × (p ≡ place)) ⊎ ((nat_eq p place ≡ false) × (p ≢ place)) →
+        get_or words p 0 ≤ bit_or others (get_or words place 0)
+    by (inl same) = rw same.1 (le_or_r others (get_or words place 0))
+    by (inr other) =
+        let differ : p ≢ place = other.1 in
+        let before : get_or words p 0 ≤ others = so_far p some (omega (arith, differ)) in
+        let grown : others ≤ bit_or others (get_or words place 0) = le_or_l others (get_or words place 0) in
+        omega (arith, before, grown)
+
+pub no_other_words : (words : List ℕ) (below : ℕ) → length words ≤ below → ((p : ℕ) → 1 ≤ p → p < below → get_or words p 0 ≤ 0) →
+    (n : ℕ) → 64 ≤ n → has_bit (get_or words (n / 64) 0) (n % 64) ≡ false
+no_other_words words below long none n up = ap (λ w. has_bit w (n % 64)) (by (cases_lt (n / 64) below)) ∙ bit_of_zero (n % 64)
+  where
+    by : (n / 64 < below) ⊎ (below ≤ n / 64) → get_or words (n / 64) 0 ≡ 0
+    by (inl lt) = let zero_word : get_or words (n / 64) 0 ≤ 0 = none (n / 64) (omega arith) lt in omega (arith, zero_word)
+    by (inr far) = get_or_past words (n / 64) 0 (omega arith)
+
+-- a set whose word at the place of `from` is looked at first
+
+pub from_first_word : (words : List ℕ) (from : ℕ) →
+    ((k : ℕ) → from % 64 ≤ k → k < 64 → has_bit (get_or words (from / 64) 0) k ≡ false) →
+    (n : ℕ) → from ≤ n → n < 64 * (from / 64 + 1) → has_bit (get_or words (n / 64) 0) (n % 64) ≡ false
+from_first_word words from here n h lt =
+    let at : n / 64 ≡ from / 64 = omega arith in
+    ap (λ p. has_bit (get_or words p 0) (n % 64)) at ∙ here (n % 64) (omega (arith, at)) (omega arith)
+
+pub first_after : (words : List ℕ) (from first most : ℕ) (it : Option ℕ) → first ≡ from →
+    ((k : ℕ) → from % 64 ≤ k → k < 64 → has_bit (get_or words (from / 64) 0) k ≡ false) →
+    MatchOption it ((n : ℕ) → 64 * (first / 64 + 1) ≤ n → has_bit (get_or words (n / 64) 0) (n % 64) ≡ false)
+    (λ it. (64 * (first / 64 + 1) ≤ it) × (it < most) × (has_bit (get_or words (it / 64) 0) (it % 64) ≡ true)
+    × ((n : ℕ) → 64 * (first / 64 + 1) ≤ n → n < it → has_bit (get_or words (n / 64) 0) (n % 64) ≡ false)) →
+    MatchOption it ((n : ℕ) → from ≤ n → has_bit (get_or words (n / 64) 0) (n % 64) ≡ false)
+    (λ it. (from ≤ it) × (it < most) × (has_bit (get_or words (it / 64) 0) (it % 64) ≡ true)
+    × ((n : ℕ) → from ≤ n → n < it → has_bit (get_or words (n / 64) 0) (n % 64) ≡ false))
+first_after words from first most None same here later = λ n h. by n h (cases_lt n (64 * (from / 64 + 1)))
+  where
+    by : (n : ℕ) → from ≤ n → (n < 64 * (from / 64 + 1)) ⊎ (64 * (from / 64 + 1) ≤ n) → has_bit (get_or words (n / 64) 0) (n % 64) ≡ false
+    by n h (inl lt) = from_first_word words from here n h lt
+    by n h (inr up) = later n (omega (arith, same))
+first_after words from first most (Some number) same here later = (
+  omega (arith, same, later.0),
+  later.1,
+  later.2,
+  λ n h lt. by n h lt (cases_lt n (64 * (from / 64 + 1))),
+)
+  where
+    by : (n : ℕ) → from ≤ n → n < number → (n < 64 * (from / 64 + 1)) ⊎ (64 * (from / 64 + 1) ≤ n) →
+        has_bit (get_or words (n / 64) 0) (n % 64) ≡ false
+    by n h lt (inl low) = from_first_word words from here n h low
+    by n h lt (inr up) = later.3 n (omega (arith, same)) lt

@@ -4,7 +4,7 @@
 //! [`NumberSet::first_from`] walks it in number order.
 #![tactic(auto)]
 
-ghost use Rattle.std.specs.Prelude.{◌≡◌, ℕ, ◌<◌, ◌≤◌, Bool, true, false, ◌||◌, ◌&&◌, not, nat_eq, MatchOption, length};
+ghost use Rattle.std.specs.Prelude.{◌≡◌, ℕ, ◌*◌, ◌<◌, ◌≤◌, Bool, true, false, ◌||◌, ◌&&◌, not, nat_eq, MatchOption, length};
 ghost use Rattle.std.specs.Int.{bit_at};
 ghost use Rattle.number_set.specs.Numbers.{IsFirstBit, has, has_bit};
 
@@ -75,13 +75,43 @@ impl NumberSet {
             × ((n : ℕ) → from ≤ n → n < it → has self.now n ≡ false)) }
     {
         let first = usize::from(from) / 64;
+        if first >= WORDS {
+            return None;
+        }
+        if let Some(bit) = first_bit(self.words[first], usize::from(from) % 64) {
+            return Some((64 * first + bit) as u16);
+        }
+        self.first_in(first + 1)
+    }
+
+    // The least number whose word stands at that place, or later.
+    fn first_in(&self, first: usize) -> Option<u16>
+        requires { 1 ≤ first }
+        ensures { MatchOption result
+            ((n : ℕ) → 64 * first ≤ n → has self.now n ≡ false)
+            (λ it. (64 * first ≤ it) × (it < MOST_ALGORITHMS) × (has self.now it ≡ true)
+            × ((n : ℕ) → 64 * first ≤ n → n < it → has self.now n ≡ false)) }
+    {
+        if self.is_one_word() {
+            return None;
+        }
         for place in first..WORDS {
-            let low = usize::from(from).saturating_sub(64 * place);
-            if let Some(bit) = first_bit(self.words[place], low) {
+            if let Some(bit) = first_bit(self.words[place], 0) {
                 return Some((64 * place + bit) as u16);
             }
         }
         None
+    }
+
+    // Whether all words but the first are 0, as they are where a job has few algorithms.
+    fn is_one_word(&self) -> bool
+        ensures { result ≡ true → (n : ℕ) → 64 ≤ n → has self.now n ≡ false }
+    {
+        let mut others = 0;
+        for place in 1..WORDS {
+            others |= self.words[place];
+        }
+        others == 0
     }
 }
 

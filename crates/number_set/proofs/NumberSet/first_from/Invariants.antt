@@ -1,6 +1,0 @@
-use Rattle.std.proofs.Common.{◌≡◌, ℕ, ◌*◌, ◌<◌, ◌≤◌, length, false}
-use Rattle.number_set.specs.Numbers.{has}
-use Rattle.number_set.proofs.NumberSet.first_from.Given as goal
-
-abbrev pub invariant-loop-place : goal.invariant-loop-place
-invariant-loop-place l = (length l.self.words ≡ 16) × ((n : ℕ) → l.from ≤ n → n < 64 * l.place → has l.self n ≡ false)
