@@ -350,3 +350,29 @@ table_withdrawn nodes leaves parents outcomes top marks table a =
         ∙ first_of_both (it.1.1.cut && not (is_undecided (decision (job_of (record { sequences = sequences_of nodes; top = top; outcomes = outcomes })) outcomes (Seq it.1.0)))) (is_algorithm_below (job_of (record { sequences = sequences_of nodes; top = top; outcomes = outcomes })) it.1.0 a) it.3
         in
         found_down nodes leaves parents a table.forest.parents_cover table.leaves_cover MOST_DEPTH 0 s (or_left (is_cutting nodes s) (is_cut_from nodes parents 0 (places_at parents s)) cut) (second_of_both (it.1.1.cut && not (is_undecided (decision (job_of (record { sequences = sequences_of nodes; top = top; outcomes = outcomes })) outcomes (Seq it.1.0)))) (is_algorithm_below (job_of (record { sequences = sequences_of nodes; top = top; outcomes = outcomes })) it.1.0 a) it.3)
+
+-- where no node is a cut node
+
+not_cutting : (nodes : List Standing) (s : ℕ) → list_any (λ q. q.cut) (sequences_of nodes) ≡ false → is_cutting nodes s ≡ false
+not_cutting nodes s none = by (slice_get nodes s) refl
+  where
+    plain : (n : Standing) → slice_get nodes s ≡ Some n → (b : Bool) → n.sequence.cut ≡ b → b ≡ false
+    plain n there true cut =
+        absurd (false≢true (sym none ∙ passes_some (λ (q : Sequence). q.cut) (sequences_of nodes) s n.sequence (there_sequence nodes s n there) cut))
+    plain n there false cut = refl
+
+    by : (o : Option Standing) → slice_get nodes s ≡ o → option_map_or (λ (n : Standing). n.sequence.cut && not (is_open n)) o false ≡ false
+    by None there = refl
+    by (Some n) there = ap (λ b. b && not (is_open n)) (plain n there n.sequence.cut refl)
+
+none_passes : (p : Edge → Bool) (xs : List Edge) → ((x : Edge) → p x ≡ false) → list_any p xs ≡ false
+none_passes p [] none = refl
+none_passes p (x ∷ xs) none = ap₂ (λ a b. a || b) (none x) (none_passes p xs none)
+
+pub nothing_cut : (nodes : List Standing) (parents : List (List Edge)) (depth : ℕ) (edges : List Edge) →
+    list_any (λ q. q.cut) (sequences_of nodes) ≡ false → is_cut_from nodes parents depth edges ≡ false
+unfolding is_cut_from
+nothing_cut nodes parents zero edges none = refl
+nothing_cut nodes parents (suc depth) edges none =
+    none_passes (λ e. is_cutting nodes e.sequence || is_cut_from nodes parents depth (places_at parents e.sequence)) edges
+    (λ e. ap₂ (λ a b. a || b) (not_cutting nodes e.sequence none) (nothing_cut nodes parents depth (places_at parents e.sequence) none))

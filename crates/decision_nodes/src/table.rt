@@ -1,5 +1,6 @@
 //! The table of one event.
 ghost use Rattle.std.specs.Prelude.{◌≡◌, ℕ, ◌<◌, [], true, Some, None, IfOk, ◌&&◌, not, length, map, replicate, slice_get};
+ghost use Rattle.std.specs.List.{list_any};
 ghost use Rattle.number_set.specs.Numbers.{has};
 ghost use Rattle.decision_nodes.specs.Index.{IsForest};
 ghost use Rattle.decision_nodes.specs.Marks.{marked, sequences_of};
@@ -15,7 +16,7 @@ use crate::marks::Marks;
 use crate::node::Node;
 use crate::telling::{begin, tell_all};
 use crate::withdrawing::is_cut_from;
-use hive_model::{Decision, Job, MOST_DEPTH, Member, Outcome};
+use hive_model::{Decision, Job, MOST_DEPTH, Member, Outcome, Sequence};
 use number_set::NumberSet;
 use std::alloc::{AllocError, Global};
 use std::marker::Model;
@@ -29,10 +30,14 @@ pub struct TreeTable {
     parents: Places,
     outcomes: Vec<Option<Outcome>>,
     top: u16,
+    /// whether there is a cut node at all
+    cuts: bool,
     marks: Marks,
 }
 
 impl Model for TreeTable {
+    ghost use Rattle.std.specs.Prelude.{◌≡◌};
+    ghost use Rattle.std.specs.List.{list_any};
     ghost use Rattle.decision_nodes.specs.Marks.{marked, sequences_of};
     ghost use Rattle.decision_nodes.specs.Table.{IsTable};
     ghost use Rattle.decision_nodes.specs.Tree.{Tree};
@@ -43,7 +48,8 @@ impl Model for TreeTable {
         record { sequences = sequences_of it.nodes.items; top = it.top; outcomes = it.outcomes.items } };
 
     ghost invariant = { λ it.
-        IsTable it.nodes.items it.leaves it.parents it.outcomes.items it.top (marked it.marks) };
+        IsTable it.nodes.items it.leaves it.parents it.outcomes.items it.top (marked it.marks)
+        × (it.cuts ≡ list_any (λ q. q.cut) (sequences_of it.nodes.items)) };
 }
 
 impl TreeTable {
@@ -64,6 +70,7 @@ impl TreeTable {
             parents: index.parents,
             outcomes,
             top: job.top,
+            cuts: has_cuts(sequences),
             marks,
         })
     }
@@ -129,9 +136,24 @@ impl TreeTable {
         requires { algorithm < length self.now.outcomes }
         ensures { result ≡ is_withdrawn_in self.now algorithm }
     {
+        if !self.cuts {
+            return false;
+        }
         let places = self.leaves.at(usize::from(algorithm));
         is_cut_from(self.nodes.as_slice(), &self.parents, MOST_DEPTH, places)
     }
+}
+
+// Whether one of these is a cut node.
+fn has_cuts(sequences: &[Sequence]) -> bool
+    ensures { result ≡ list_any (λ q. q.cut) sequences.now }
+{
+    for sequence in sequences {
+        if sequence.cut {
+            return true;
+        }
+    }
+    false
 }
 
 // No algorithm is settled.

@@ -1,4 +1,5 @@
 use Rattle.std.proofs.Common.{◌≡◌, Option, None, List, [], length, map, refl, sym, ap, ap₂, subst, ◌∙◌, arith}
+use Rattle.std.specs.List.{list_any}
 use Rattle.std.proofs.lemmas.List.{length-replicate}
 use Rattle.hive_model.specs.Sequence.{Sequence}
 use Rattle.hive_model.specs.declared.outcome.Outcome.{Outcome}
@@ -21,7 +22,7 @@ begin_marks-marks-requires-clause-forest c =
     ap length (c.as_slice.ensures.value ∙ c.forget.ensures) ∙ length-replicate (length c.self.inside.outcomes.items) None
     in
     subst (λ k. IsForest (sequences_of c.clear_nodes.new.nodes.items) k c.self.inside.parents) (sym count)
-    (subst (λ them. IsForest them (length c.self.inside.outcomes.items) c.self.inside.parents) (sym same) c.self.invariant.forest)
+    (subst (λ them. IsForest them (length c.self.inside.outcomes.items) c.self.inside.parents) (sym same) c.self.invariant.0.forest)
 
 pub begin_marks-marks-requires-clause-fresh : goal.begin_marks-marks-requires-clause-fresh
 begin_marks-marks-requires-clause-fresh c =
@@ -38,11 +39,13 @@ invariant_of-self c =
     let way : IsUnderWay c.begin_marks-marks.new.nodes.items c.forget.new.outcomes.items [] c.self.inside.top (marked c.begin_marks-marks.result) =
     subst (λ them. IsUnderWay c.begin_marks-marks.new.nodes.items them [] c.self.inside.top (marked c.begin_marks-marks.result)) c.as_slice.ensures.value
     c.begin_marks-marks.ensures.under_way
-    in
-    table_with nodes c.begin_marks-marks.new.nodes.items c.self.inside.leaves c.self.inside.parents c.self.inside.outcomes.items c.forget.new.outcomes.items
-    c.self.inside.top (marked c.self.inside.marks) (marked c.begin_marks-marks.result) c.self.invariant same
-    (ap length c.forget.ensures ∙ length-replicate (length c.self.inside.outcomes.items) None)
-    (omega (arith, long, same_length nodes, same_length c.begin_marks-marks.new.nodes.items)) way c.begin_marks-marks.ensures.top
+    in (
+      table_with nodes c.begin_marks-marks.new.nodes.items c.self.inside.leaves c.self.inside.parents c.self.inside.outcomes.items c.forget.new.outcomes.items
+          c.self.inside.top (marked c.self.inside.marks) (marked c.begin_marks-marks.result) c.self.invariant.0 same
+          (ap length c.forget.ensures ∙ length-replicate (length c.self.inside.outcomes.items) None)
+          (omega (arith, long, same_length nodes, same_length c.begin_marks-marks.new.nodes.items)) way c.begin_marks-marks.ensures.top,
+      c.self.invariant.1 ∙ ap (list_any (λ (q : Sequence). q.cut)) (sym same),
+    )
 
 pub returns-clause-outcomes : goal.returns-clause-outcomes
 returns-clause-outcomes c =
@@ -57,4 +60,4 @@ pub returns-clause-reached : goal.returns-clause-reached
 returns-clause-reached c = λ a.
     let new = invariant_of-self c in
     table_reached c.begin_marks-marks.new.nodes.items c.self.inside.leaves c.self.inside.parents c.forget.new.outcomes.items c.self.inside.top
-    (marked c.begin_marks-marks.result) new _ refl a
+    (marked c.begin_marks-marks.result) new.0 _ refl a

@@ -17,5 +17,5 @@ returns c =
     let nodes = c.self.inside.nodes.items in
     c.decision.ensures
     ∙ table_decision nodes c.self.inside.leaves c.self.inside.parents c.self.inside.outcomes.items c.self.inside.top (marked c.self.inside.marks)
-    c.self.invariant c.args.self.now (sym c.self.view_is) c.args.sequence c.node_at.result.now
+    c.self.invariant.0 c.args.self.now (sym c.self.view_is) c.args.sequence c.node_at.result.now
     (ap (λ them. slice_get them c.args.sequence) (sym c.as_slice.ensures.value) ∙ c.node_at.ensures)

@@ -1,4 +1,5 @@
 use Rattle.std.proofs.Common.{ℕ, Option, None, List, [], length, map, replicate, sym, ap, ap₂, subst, ◌∙◌}
+use Rattle.std.specs.List.{list_any}
 use Rattle.std.proofs.lemmas.List.{length-replicate}
 use Rattle.hive_model.specs.Job.{Job}
 use Rattle.hive_model.specs.Sequence.{Sequence}
@@ -43,17 +44,21 @@ invariant_of-result c =
     subst (λ k. IsUnderWay c.begin_marks-marks.new.nodes.items c.in_ok-outcomes.outcomes.items [] k (marked c.begin_marks-marks.result)) top
     (subst (λ them. IsUnderWay c.begin_marks-marks.new.nodes.items them [] c.job.inside.top (marked c.begin_marks-marks.result)) c.as_slice.ensures.value
     c.begin_marks-marks.ensures.under_way)
-    in
-    subst (λ k. IsTable c.begin_marks-marks.new.nodes.items c.in_ok-index.index.leaves c.in_ok-index.index.parents c.in_ok-outcomes.outcomes.items k
-    (marked c.begin_marks-marks.result)) (sym top)
-    (table_of job c.begin_marks-marks.new.nodes.items c.in_ok-index.index.leaves c.in_ok-index.index.parents c.in_ok-outcomes.outcomes.items
-    (marked c.begin_marks-marks.result) c.requires
-    (c.begin_marks-marks.ensures.sequences ∙ ap sequences_of c.in_ok-nodes.ensures ∙ sequences_fresh c.sequences-sequences.result.now ∙ c.sequences-sequences.ensures)
-    (ap length c.in_ok-outcomes.ensures ∙ length-replicate (length c.algorithms-algorithms.result.now) None ∙ ap length c.algorithms-algorithms.ensures)
-    (subst (λ them. IsIndex them c.in_ok-index.index.leaves c.in_ok-index.index.parents) c.sequences-sequences.ensures c.in_ok-index.ensures.index)
-    (c.in_ok-index.ensures.leaves ∙ ap length c.algorithms-algorithms.ensures)
-    (c.in_ok-index.ensures.parents ∙ ap length c.sequences-sequences.ensures)
-    way (ap (λ k. marked c.begin_marks-marks.result (Seq k)) (sym top) ∙ c.begin_marks-marks.ensures.top))
+    in (
+      subst (λ k. IsTable c.begin_marks-marks.new.nodes.items c.in_ok-index.index.leaves c.in_ok-index.index.parents c.in_ok-outcomes.outcomes.items k
+          (marked c.begin_marks-marks.result)) (sym top)
+          (table_of job c.begin_marks-marks.new.nodes.items c.in_ok-index.index.leaves c.in_ok-index.index.parents c.in_ok-outcomes.outcomes.items
+          (marked c.begin_marks-marks.result) c.requires
+          (c.begin_marks-marks.ensures.sequences ∙ ap sequences_of c.in_ok-nodes.ensures ∙ sequences_fresh c.sequences-sequences.result.now ∙ c.sequences-sequences.ensures)
+          (ap length c.in_ok-outcomes.ensures ∙ length-replicate (length c.algorithms-algorithms.result.now) None ∙ ap length c.algorithms-algorithms.ensures)
+          (subst (λ them. IsIndex them c.in_ok-index.index.leaves c.in_ok-index.index.parents) c.sequences-sequences.ensures c.in_ok-index.ensures.index)
+          (c.in_ok-index.ensures.leaves ∙ ap length c.algorithms-algorithms.ensures)
+          (c.in_ok-index.ensures.parents ∙ ap length c.sequences-sequences.ensures)
+          way (ap (λ k. marked c.begin_marks-marks.result (Seq k)) (sym top) ∙ c.begin_marks-marks.ensures.top)),
+      c.has_cuts.ensures
+          ∙ ap (list_any (λ (q : Sequence). q.cut))
+          (sym (c.begin_marks-marks.ensures.sequences ∙ ap sequences_of c.in_ok-nodes.ensures ∙ sequences_fresh c.sequences-sequences.result.now)),
+    )
 
 pub returns : goal.returns
 returns c =

@@ -7,4 +7,4 @@ pub returns : goal.returns
 returns c =
     c.contains.ensures
     ∙ table_reached c.self.inside.nodes.items c.self.inside.leaves c.self.inside.parents c.self.inside.outcomes.items c.self.inside.top
-    (marked c.self.inside.marks) c.self.invariant c.args.self.now (sym c.self.view_is) c.args.algorithm
+    (marked c.self.inside.marks) c.self.invariant.0 c.args.self.now (sym c.self.view_is) c.args.algorithm
