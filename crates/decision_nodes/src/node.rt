@@ -17,19 +17,23 @@ pub(crate) struct Node {
     sequence: Sequence,
     states: Vec<Decision>,
     counts: Counts,
+    /// what it decides by these
+    decision: Decision,
 }
 
 impl Model for Node {
     ghost use Rattle.std.specs.Prelude.{◌≡◌, length};
     ghost use Rattle.decision_nodes.specs.Counting.{IsCounted};
     ghost use Rattle.decision_nodes.specs.Standing.{Standing};
+    ghost use Rattle.hive_model.specs.Decision.{node_decision};
 
     ghost Value = { Standing };
 
     ghost view = { λ it. record { sequence = it.sequence; states = it.states.items } };
 
     ghost invariant = { λ it. (length it.states.items ≡ length it.sequence.members)
-        × IsCounted it.sequence it.states.items it.counts };
+        × IsCounted it.sequence it.states.items it.counts
+        × (it.decision ≡ node_decision it.sequence it.states.items) };
 }
 
 impl Node {
@@ -40,10 +44,13 @@ impl Node {
         let sequence = copy_sequence(alloc, sequence)?;
         let members = sequence.members().len();
         let states = undecided(alloc, members)?;
+        let counts = counts_of_none(members);
+        let decision = node_decision(&sequence, states.as_slice(), counts);
         Ok(Node {
             sequence,
             states,
-            counts: counts_of_none(members),
+            counts,
+            decision,
         })
     }
 
@@ -65,7 +72,7 @@ impl Node {
     pub(crate) fn decision(&self) -> Decision
         ensures { result ≡ node_decision self.now.sequence self.now.states }
     {
-        node_decision(&self.sequence, self.states.as_slice(), self.counts)
+        self.decision
     }
 
     /// How many members it enters where it is reached; these are the first ones.
@@ -92,6 +99,7 @@ impl Node {
             self.counts,
             decision,
         );
+        self.decision = node_decision(&self.sequence, self.states.as_slice(), self.counts);
     }
 
     /// Forgets what its members said.
@@ -100,6 +108,7 @@ impl Node {
     {
         forget(&mut self.states);
         self.counts = counts_of_none(self.states.len());
+        self.decision = node_decision(&self.sequence, self.states.as_slice(), self.counts);
     }
 }
 

@@ -1,7 +1,7 @@
 //! What a member says is told to its node, and what that changes to the nodes above.
 ghost use Rattle.std.specs.Prelude.{◌≡◌, ℕ, ◌+◌, ◌<◌, ◌≤◌, List, [], true, ◌++◌, length, if◌then◌else◌, ◌&&◌, not, slice_get, slice_set, Some};
 ghost use Rattle.std.specs.List.{count_by, flat_map};
-ghost use Rattle.decision_nodes.specs.Index.{IsAmong, IsForest, IsIn, IsPlace, StandsAt};
+ghost use Rattle.decision_nodes.specs.Index.{IsAmong, IsForest, IsIn, IsPlace, StandsAt, places_at};
 ghost use Rattle.decision_nodes.specs.Marks.{marked, sequences_of};
 ghost use Rattle.decision_nodes.specs.Standing.{Standing, heard, is_open};
 ghost use Rattle.decision_nodes.specs.Telling.{HasHeard, IsUnderWay, StandsIn, Tells, told};
@@ -129,6 +129,27 @@ pub(crate) fn begin(
         → IsUnderWay nodes.new.items outcomes.now [] top (marked marks.new) }
 {
     for number in 0..parents.len() {
-        tell_all(nodes, parents, outcomes, marks, parents.at(number));
+        begin_at(nodes, parents, outcomes, marks, number);
     }
+}
+
+// The same for one sequence: one that isn't decided has nothing to tell.
+fn begin_at(
+    nodes: &mut Vec<Node>,
+    parents: &Places,
+    outcomes: &[Option<Outcome>],
+    marks: &mut Marks,
+    number: usize,
+)
+    requires forest { IsForest (sequences_of nodes.old.items) (length outcomes.now) parents.now }
+    requires number { number < length parents.now }
+    ensures sequences { sequences_of nodes.new.items ≡ sequences_of nodes.old.items }
+    ensures tells { (top : ℕ) (rest : List Edge)
+        → IsUnderWay nodes.old.items outcomes.now (places_at parents.now number ++ rest) top (marked marks.old)
+        → IsUnderWay nodes.new.items outcomes.now rest top (marked marks.new) }
+{
+    if is_open(nodes.as_slice(), number as u16) {
+        return;
+    }
+    tell_all(nodes, parents, outcomes, marks, parents.at(number));
 }

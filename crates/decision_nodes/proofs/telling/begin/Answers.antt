@@ -1,30 +1,28 @@
-use Rattle.std.proofs.Common.{◌≡◌, ℕ, ◌+◌, List, ◌++◌, drop, length, refl, sym, ap, subst, ◌∙◌, arith}
+use Rattle.std.proofs.Common.{◌≡◌, ℕ, ◌+◌, List, ◌++◌, drop, length, sym, subst, ◌∙◌, arith}
 use Rattle.std.specs.List.{flat_map}
-use Rattle.decision_nodes.specs.Index.{IsForest}
-use Rattle.decision_nodes.specs.Marks.{marked, sequences_of}
+use Rattle.decision_nodes.specs.Index.{IsForest, places_at}
+use Rattle.decision_nodes.specs.Marks.{marked}
 use Rattle.decision_nodes.specs.Telling.{IsUnderWay}
 use Rattle.decision_nodes.specs.declared.edge.Edge.{Edge}
-use Rattle.decision_nodes.proofs.Rising.{next_list, no_list, places_stand}
+use Rattle.decision_nodes.proofs.Rising.{next_list, no_list}
 use Rattle.decision_nodes.proofs.telling.begin.Goals as goal
 
-pub tell_all-requires-clause-places : goal.tell_all-requires-clause-places
-tell_all-requires-clause-places c =
-    places_stand (sequences_of c.loop-number.nodes.items) (length c.args.outcomes.now) c.args.parents.now c.loop-number.number c.loop-number.number
-    c.at.result.now
-    (subst (λ them. IsForest them (length c.args.outcomes.now) c.args.parents.now) (sym c.loop-number.invariant.same) c.requires.forest) c.at.ensures refl
+pub begin_at-requires-clause-forest : goal.begin_at-requires-clause-forest
+begin_at-requires-clause-forest c =
+    subst (λ them. IsForest them (length c.args.outcomes.now) c.args.parents.now) (sym c.loop-number.invariant.same) c.requires.forest
 
 pub loop-number-preserved : goal.loop-number-preserved
 loop-number-preserved c =
     let lists = c.args.parents.now in
     let i : ℕ = c.loop-number.number in
     let rest : List Edge = flat_map (λ (them : List Edge). them) (drop (i + 1) lists) in
-    let next : flat_map (λ (them : List Edge). them) (drop i lists) ≡ c.at.result.now ++ rest =
-    next_list lists i (omega (arith, c.loop-number-test.true, c.len-number-end.ensures)) ∙ ap (λ them. them ++ rest) (sym c.at.ensures)
+    let next : flat_map (λ (them : List Edge). them) (drop i lists) ≡ places_at lists i ++ rest =
+    next_list lists i (omega (arith, c.loop-number-test.true, c.len-number-end.ensures))
     in
     record {
-      same = c.tell_all.ensures.sequences ∙ c.loop-number.invariant.same;
+      same = c.begin_at.ensures.sequences ∙ c.loop-number.invariant.same;
       tells = λ top way.
-          c.tell_all.ensures.tells top rest
+          c.begin_at.ensures.tells top rest
           (subst (λ pending. IsUnderWay c.loop-number.nodes.items c.args.outcomes.now pending top (marked c.loop-number.marks)) next
           (c.loop-number.invariant.tells top way));
     }
