@@ -5,8 +5,8 @@ use Rattle.std.specs.Io.KnownBytes.{Appends}
 use Rattle.hive_edge.specs.Fault.{Calm, Rose}
 use Rattle.hive_edge.specs.Shelf.{Files}
 use Rattle.hive_pump.specs.Written.{AppendsPrefix}
-use Rattle.hive_top.specs.Answer.{CanRise, rose}
-use Rattle.hive_top.specs.Called.{BearsOut, Called, IsAnswered, IsBrokenOff, Wrote}
+use Rattle.hive_top.specs.Answer.{Answer, CanRise, IsDue, rose}
+use Rattle.hive_top.specs.Called.{BearsOut, Called, IsBrokenOff, Wrote}
 use Rattle.hive_top.specs.declared.status.Status.{Status}
 use Rattle.hive_top.specs.declared.status.Status.TheVariants as status
 
@@ -16,7 +16,7 @@ rose-is true before now h below = grind (arith, nat_tests)
 rose-is false before now h below = grind (arith, nat_tests)
 
 -- a count that rose isn't calm
-not-calm : (before now : ℕ) → Rose before now → Calm before now → ⊥
+pub not-calm : (before now : ℕ) → Rose before now → Calm before now → ⊥
 not-calm before now rose calm = omega (arith, rose.0, rose.1, calm.0, calm.1)
 
 pub prefix-whole : (old new : Option (List ℕ)) (text : List ℕ) → Appends old new text → AppendsPrefix old new text
@@ -24,19 +24,21 @@ prefix-whole old new text appends = record { front = text; back = []; whole = sy
 
 module _ (words : List (List ℕ)) (files : Option Files) (rest now got got' : Option (List ℕ)) (f f' s s' k k' : ℕ) where
   pub answered : (ended : Status) → Called words files rest now got got' f f' s s' k k' ended → CanRise f' → CanRise s' → Calm k k' →
-      ended ≢ status.NoMemory → IsAnswered words files rest now (rose f f') (rose s s') got got' ended
+      ended ≢ status.NoMemory →
+      (a : Answer) × IsDue words files rest now (rose f f') (rose s s') a × Appends got got' a.text × (ended ≡ a.status)
   answered ended c fb sb calm enough =
       rw (rose-is c.shelf f f' c.shelf_count fb, rose-is c.source s s' c.source_count sb) (by ended c.wrote enough)
     where
-      by : (it : Status) → Wrote it got got' k k' c.answer → it ≢ status.NoMemory → IsAnswered words files rest now c.shelf c.source got got' it
+      by : (it : Status) → Wrote it got got' k k' c.answer → it ≢ status.NoMemory →
+          (a : Answer) × IsDue words files rest now c.shelf c.source a × Appends got got' a.text × (it ≡ a.status)
       by status.Output wrote enough = absurd (not-calm k k' wrote.1 calm)
       by status.NoMemory wrote enough = absurd (enough refl)
-      by status.AllOk wrote enough = record { answer = c.answer; due = c.due; bytes = wrote.0; status_is = wrote.1 }
-      by status.SomeNot wrote enough = record { answer = c.answer; due = c.due; bytes = wrote.0; status_is = wrote.1 }
-      by status.Words wrote enough = record { answer = c.answer; due = c.due; bytes = wrote.0; status_is = wrote.1 }
-      by status.Options wrote enough = record { answer = c.answer; due = c.due; bytes = wrote.0; status_is = wrote.1 }
-      by status.Record wrote enough = record { answer = c.answer; due = c.due; bytes = wrote.0; status_is = wrote.1 }
-      by status.Input wrote enough = record { answer = c.answer; due = c.due; bytes = wrote.0; status_is = wrote.1 }
+      by status.AllOk wrote enough = (c.answer, c.due, wrote.0, wrote.1)
+      by status.SomeNot wrote enough = (c.answer, c.due, wrote.0, wrote.1)
+      by status.Words wrote enough = (c.answer, c.due, wrote.0, wrote.1)
+      by status.Options wrote enough = (c.answer, c.due, wrote.0, wrote.1)
+      by status.Record wrote enough = (c.answer, c.due, wrote.0, wrote.1)
+      by status.Input wrote enough = (c.answer, c.due, wrote.0, wrote.1)
 
   pub broken : (ended : Status) → Called words files rest now got got' f f' s s' k k' ended → CanRise f' → CanRise s' →
       IsBrokenOff words files rest now (rose f f') (rose s s') got got'

@@ -1,6 +1,7 @@
 -- what was called, by what the counts say
 pub mod DueLaws
--- what stopped a call, and what came of a job
+-- what a run came to, and what stopped a call
+pub mod CameTo
 pub mod Calls
 -- the job of a text that was fetched
 pub mod Jobs
@@ -8,4 +9,8 @@ pub mod Jobs
 pub mod Runs
 -- pieces of a line
 pub mod Joined
+-- the journal, and its text
 pub mod Journals
+pub mod Tracing
+-- runs of generated records
+pub mod Generating

@@ -33,22 +33,22 @@ empty-run job slots journal e =
     subst (λ l. IsWholeRun job slots [] l) (sym e)
     (subst (λ o. IsSomeAnd o (λ (m : Machine). m.admitted ≡ 0)) (sym (led-none job slots)) refl)
 
-unread-so : (job : Job) (slots : ℕ) (rest got : Option (List ℕ)) (s k : ℕ) (journal : List Entry) → journal ≡ [] →
-    RunsTo job slots rest rest got got s s k k status.NoMemory journal
-unread-so job slots rest got s k journal empty = record {
+unread-so : (job : Job) (slots : ℕ) (brief : Bool) (rest got : Option (List ℕ)) (s k : ℕ) (journal : List Entry) → journal ≡ [] →
+    RunsTo job slots brief rest rest got got s s k k status.NoMemory journal
+unread-so job slots brief rest got s k journal empty = record {
   given = [];
   last = None;
   read = read-nothing job rest;
   source_count = refl;
-  wrote = (record { front = []; back = written job false [] None; whole = refl; bytes = Appends-nil got }, inl refl);
+  wrote = (record { front = []; back = written job brief [] None; whole = refl; bytes = Appends-nil got }, inl refl);
   run = empty-run job slots journal empty;
 }
 
-pub unread : (job : Job) (slots : ℕ) (rest got : Option (List ℕ)) (s k : ℕ) (ended : Status) (journal : List Entry) →
-    ended ≡ status.NoMemory → journal ≡ [] → RunsTo job slots rest rest got got s s k k ended journal
-unread job slots rest got s k ended journal e empty =
-    subst (λ x. RunsTo job slots rest rest got got s s k k x journal) (sym e)
-    (unread-so job slots rest got s k journal empty)
+pub unread : (job : Job) (slots : ℕ) (brief : Bool) (rest got : Option (List ℕ)) (s k : ℕ) (ended : Status) (journal : List Entry) →
+    ended ≡ status.NoMemory → journal ≡ [] → RunsTo job slots brief rest rest got got s s k k ended journal
+unread job slots brief rest got s k ended journal e empty =
+    subst (λ x. RunsTo job slots brief rest rest got got s s k k x journal) (sym e)
+    (unread-so job slots brief rest got s k journal empty)
 
 -- the prefix stays where nothing more is written
 prefix-same : (old mid new : Option (List ℕ)) (text : List ℕ) → AppendsPrefix old mid text → new ≡ mid → AppendsPrefix old new text
@@ -62,20 +62,20 @@ prefix-kept old mid new text appends keeps =
 abbrev FlushedSo : Option (List ℕ) → Option (List ℕ) → ℕ → ℕ → Status → Status → Type 0
 FlushedSo got got' k k' before after = Keeps got got' × (((after ≡ before) × (k' ≡ k)) ⊎ ((after ≡ status.Output) × Rose k k'))
 
-module _ (job : Job) (given : List EventRecord) (last : Option Last) (end : Last) (is : last ≡ Some end) (old mid new : Option (List ℕ))
-    (k k₁ k₂ : ℕ) (bytes : Appends old mid (written job false given last)) (calm : k₁ ≡ k) where
+module _ (job : Job) (brief : Bool) (given : List EventRecord) (last : Option Last) (end : Last) (is : last ≡ Some end) (old mid new : Option (List ℕ))
+    (k k₁ k₂ : ℕ) (bytes : Appends old mid (written job brief given last)) (calm : k₁ ≡ k) where
   abbrev Whole : Status → Type 0
-  Whole it = (e : Last) × (last ≡ Some e) × (it ≡ status_of (results job given) e) × Appends old new (written job false given last) × (k₂ ≡ k)
+  Whole it = (e : Last) × (last ≡ Some e) × (it ≡ status_of (results job given) e) × Appends old new (written job brief given last) × (k₂ ≡ k)
 
-  flushed : (before after : Status) → before ≡ status_of (results job given) end → (Whole before → WroteRun before old new k k₂ job given last) →
-      FlushedSo mid new k₁ k₂ before after → WroteRun after old new k k₂ job given last
+  flushed : (before after : Status) → before ≡ status_of (results job given) end → (Whole before → WroteRun before old new k k₂ job brief given last) →
+      FlushedSo mid new k₁ k₂ before after → WroteRun after old new k k₂ job brief given last
   flushed before after st whole (keeps, inl (e, same)) =
-      rw e (whole (end, is, st, Appends-kept old mid new (written job false given last) bytes keeps, same ∙ calm))
+      rw e (whole (end, is, st, Appends-kept old mid new (written job brief given last) bytes keeps, same ∙ calm))
   flushed before after st whole (keeps, inr (e, rose)) =
-      rw e (prefix-kept old mid new (written job false given last) bytes keeps, rw (← calm) rose)
+      rw e (prefix-kept old mid new (written job brief given last) bytes keeps, rw (← calm) rose)
 
   pub after-flush : (before after : Status) → before ≡ status_of (results job given) end → (before ≡ status.Output → ⊥) →
-      (before ≡ status.NoMemory → ⊥) → Flushes mid new k₁ k₂ before after → WroteRun after old new k k₂ job given last
+      (before ≡ status.NoMemory → ⊥) → Flushes mid new k₁ k₂ before after → WroteRun after old new k k₂ job brief given last
   after-flush status.Output after st a b f = absurd (a refl)
   after-flush status.NoMemory after st a b f = absurd (b refl)
   after-flush status.AllOk after st a b f = flushed status.AllOk after st (λ w. w) f
@@ -86,18 +86,18 @@ module _ (job : Job) (given : List EventRecord) (last : Option Last) (end : Last
   after-flush status.Input after st a b f = flushed status.Input after st (λ w. w) f
 
 -- the counts tell whether all are ok
-by-counts : (job : Job) (given : List EventRecord) (counts : Counts) → CountsAll (results job given) counts →
+pub by-counts : (job : Job) (given : List EventRecord) (counts : Counts) → CountsAll (results job given) counts →
     status_by ending.All counts ≡ status_of (results job given) ReadToEnd
 by-counts job given counts c = rw (c.ok, c.events) refl
 
-not-output : (counts : Counts) → status_by ending.All counts ≡ status.Output → ⊥
+pub not-output : (counts : Counts) → status_by ending.All counts ≡ status.Output → ⊥
 not-output counts = by (nat_eq counts.ok counts.events)
   where
     by : (t : Bool) → (if t then status.AllOk else status.SomeNot) ≡ status.Output → ⊥
     by true e = cc
     by false e = cc
 
-not-memory : (counts : Counts) → status_by ending.All counts ≡ status.NoMemory → ⊥
+pub not-memory : (counts : Counts) → status_by ending.All counts ≡ status.NoMemory → ⊥
 not-memory counts = by (nat_eq counts.ok counts.events)
   where
     by : (t : Bool) → (if t then status.AllOk else status.SomeNot) ≡ status.NoMemory → ⊥
@@ -105,7 +105,7 @@ not-memory counts = by (nat_eq counts.ok counts.events)
     by false e = cc
 
 -- a complete run is a run over all its records
-whole : (job : Job) (slots : ℕ) (given : List EventRecord) (journal : List Entry) → IsCompleteRun job slots given journal →
+pub whole : (job : Job) (slots : ℕ) (given : List EventRecord) (journal : List Entry) → IsCompleteRun job slots given journal →
     IsWholeRun job slots given journal
 whole job slots given journal h = by (replay job slots given journal) h
   where
@@ -114,7 +114,7 @@ whole job slots given journal h = by (replay job slots given journal) h
     by None it = absurd it
 
 -- so it serves each status
-completed : (job : Job) (slots : ℕ) (given : List EventRecord) (journal : List Entry) (after : Status) →
+pub completed : (job : Job) (slots : ℕ) (given : List EventRecord) (journal : List Entry) (after : Status) →
     IsCompleteRun job slots given journal → JournalBy after job slots given journal
 completed job slots given journal status.NoMemory h = whole job slots given journal h
 completed job slots given journal status.Output h = h
@@ -126,53 +126,53 @@ completed job slots given journal status.Record h = h
 completed job slots given journal status.Input h = h
 
 -- a run, and its flush
-pub run-of : (job : Job) (slots : ℕ) (rest now old mid new : Option (List ℕ)) (s s' k k₁ k₂ : ℕ) (ended : Ending)
+pub run-of : (job : Job) (slots : ℕ) (brief : Bool) (rest now old mid new : Option (List ℕ)) (s s' k k₁ k₂ : ℕ) (ended : Ending)
     (counts : Counts) (journal : List Entry) (after : Status) →
-    IsPumped job slots false rest now old mid s s' k k₁ ended counts journal →
-    Flushes mid new k₁ k₂ (status_by ended counts) after → RunsTo job slots rest now old new s s' k k₂ after journal
-run-of job slots rest now old mid new s s' k k₁ k₂ ending.Sink counts journal after p (e, same, still) = record {
+    IsPumped job slots brief rest now old mid s s' k k₁ ended counts journal →
+    Flushes mid new k₁ k₂ (status_by ended counts) after → RunsTo job slots brief rest now old new s s' k k₂ after journal
+run-of job slots brief rest now old mid new s s' k k₁ k₂ ending.Sink counts journal after p (e, same, still) = record {
   given = p.given;
   last = p.last;
   read = p.read;
   source_count = p.source_count;
-  wrote = rw (e, still) (prefix-same old mid new (written job false p.given p.last) p.bytes same, p.sink_count);
+  wrote = rw (e, still) (prefix-same old mid new (written job brief p.given p.last) p.bytes same, p.sink_count);
   run = completed job slots p.given journal after p.run;
 }
-run-of job slots rest now old mid new s s' k k₁ k₂ ending.NoMemory counts journal after p (e, same, still) = record {
+run-of job slots brief rest now old mid new s s' k k₁ k₂ ending.NoMemory counts journal after p (e, same, still) = record {
   given = p.given;
   last = p.last;
   read = p.read;
   source_count = p.source_count;
   wrote = rw e (
-    prefix-same old mid new (written job false p.given p.last) p.bytes same,
+    prefix-same old mid new (written job brief p.given p.last) p.bytes same,
     subst (λ n. (n ≡ k) ⊎ Rose k n) (sym still) p.sink_count,
   );
   run = rw e p.run;
 }
-run-of job slots rest now old mid new s s' k k₁ k₂ ending.All counts journal after p f = record {
+run-of job slots brief rest now old mid new s s' k k₁ k₂ ending.All counts journal after p f = record {
   given = p.given;
   last = p.last;
   read = p.read;
   source_count = p.source_count;
-  wrote = after-flush job p.given p.last ReadToEnd p.ends old mid new k k₁ k₂ p.bytes p.sink_count (status_by ending.All counts) after
+  wrote = after-flush job brief p.given p.last ReadToEnd p.ends old mid new k k₁ k₂ p.bytes p.sink_count (status_by ending.All counts) after
       (by-counts job p.given counts p.counted) (not-output counts) (not-memory counts) f;
   run = completed job slots p.given journal after p.run;
 }
-run-of job slots rest now old mid new s s' k k₁ k₂ (ending.Refused refusal) counts journal after p f = record {
+run-of job slots brief rest now old mid new s s' k k₁ k₂ (ending.Refused refusal) counts journal after p f = record {
   given = p.given;
   last = p.last;
   read = p.read;
   source_count = p.source_count;
-  wrote = after-flush job p.given p.last (RefusedAt refusal) p.ends old mid new k k₁ k₂ p.bytes p.sink_count status.Record after
+  wrote = after-flush job brief p.given p.last (RefusedAt refusal) p.ends old mid new k k₁ k₂ p.bytes p.sink_count status.Record after
       refl (λ e. cc) (λ e. cc) f;
   run = completed job slots p.given journal after p.run;
 }
-run-of job slots rest now old mid new s s' k k₁ k₂ ending.Source counts journal after p f = record {
+run-of job slots brief rest now old mid new s s' k k₁ k₂ ending.Source counts journal after p f = record {
   given = p.given;
   last = p.last;
   read = p.read;
   source_count = p.source_count;
-  wrote = after-flush job p.given p.last SourceFailed p.ends old mid new k k₁ k₂ p.bytes p.sink_count status.Input after
+  wrote = after-flush job brief p.given p.last SourceFailed p.ends old mid new k k₁ k₂ p.bytes p.sink_count status.Input after
       refl (λ e. cc) (λ e. cc) f;
   run = completed job slots p.given journal after p.run;
 }

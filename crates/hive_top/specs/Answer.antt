@@ -1,9 +1,12 @@
 -- What a call owes where files and source tell what they hold: a text, and the status that goes with it. The causes stand in
 -- the order words, files, options, and then the input; a failure of the files or the source takes the place of what follows it.
+-- Neither the number of slots nor whether the journal is asked for has a part in it.
 use Rattle.std.specs.Prelude.{◌≡◌, ℕ, ◌-◌, ◌^◌, ◌<◌, nat_eq, nat_le, Bool, true, false, not, if◌then◌else◌, List, length, MatchOption, Option, None, Result, Ok, Err, IfSome}
 use Rattle.std.specs.Io.KnownBytes.{Consumes}
 use Rattle.std.specs.Option.{option_and_then, option_map, option_map_or}
 use Rattle.hive_edge.specs.Shelf.{Files, text_of as text_named}
+use Rattle.hive_gen.specs.EventTexts.{records_text}
+use Rattle.hive_gen.specs.OptionsText.{options_text}
 use Rattle.hive_model.specs.EventResult.{EventResult}
 use Rattle.hive_model.specs.Job.{Job}
 use Rattle.hive_pump.specs.Written.{results, text_of}
@@ -15,13 +18,18 @@ use Rattle.text_model.specs.Whole.{Ending, ReadToEnd, RefusedAt, SourceFailed, i
 use Rattle.text_model.specs.declared.limits.TheConstants.{MOST_OPTIONS_BYTES}
 use Rattle.hive_top.specs.JobLine.{job_line}
 use Rattle.hive_top.specs.Stopped.{status_at, text_at}
-use Rattle.hive_top.specs.Words.{command_of}
+use Rattle.hive_top.specs.Words.{command_of, file_of}
+use Rattle.hive_top.specs.declared.commands.Command.{Command}
+use Rattle.hive_top.specs.declared.commands.Command.TheVariants.{OnFile, Generate, Bulk}
+use Rattle.hive_top.specs.declared.commands.Generated.{Generated}
+use Rattle.hive_top.specs.declared.commands.Generated.TheVariants.{Options as OptionsText, Records as RecordsText}
+use Rattle.hive_top.specs.declared.commands.Input.{Input}
+use Rattle.hive_top.specs.declared.commands.Verb.{Verb}
+use Rattle.hive_top.specs.declared.commands.Verb.TheVariants.{Run, Check}
 use Rattle.hive_top.specs.declared.status.Status.{Status}
 use Rattle.hive_top.specs.declared.status.Status.TheVariants as status
 use Rattle.hive_top.specs.declared.stop.Stop.{Stop}
 use Rattle.hive_top.specs.declared.stop.Stop.TheVariants as stop
-use Rattle.hive_top.specs.declared.words.Verb.{Verb}
-use Rattle.hive_top.specs.declared.words.Verb.TheVariants.{Run, Check}
 
 pub record Answer : Type 0 where
   pub text : List ℕ
@@ -45,25 +53,26 @@ status_of rs ReadToEnd = if nat_eq (tally is_ok rs) (length rs) then status.AllO
 status_of rs (RefusedAt refusal) = status.Record
 status_of rs SourceFailed = status.Input
 
--- the whole text of what is known of the input, which ends so where no line was refused
-abbrev pub run_answer : Job → Ending → Known → Answer
-run_answer job last known = record {
-  text = text_of job false last known;
+-- the whole text of what is known of the input, or its last line alone; it ends so where no line was refused
+abbrev pub run_answer : Job → Bool → Ending → Known → Answer
+run_answer job brief last known = record {
+  text = text_of job brief last known;
   status = status_of (results job known.records) (option_map_or RefusedAt known.refusal last);
 }
 
 -- The answer of a run. Where the source failed, it is that of the bytes which it gave, and no line of them was refused.
-abbrev pub IsDueOfJob : Option (List ℕ) → Option (List ℕ) → Bool → Job → Answer → Type 0
-IsDueOfJob rest now false job a = IfSome rest (λ text. a ≡ run_answer job ReadToEnd (records_of job text))
-IsDueOfJob rest now true job a =
-    (text : List ℕ) × Consumes rest now text × ((so_far job text).refusal ≡ None) × (a ≡ run_answer job SourceFailed (so_far job text))
+abbrev pub IsDueOfJob : Option (List ℕ) → Option (List ℕ) → Bool → Job → Bool → Answer → Type 0
+IsDueOfJob rest now false job brief a = IfSome rest (λ text. a ≡ run_answer job brief ReadToEnd (records_of job text))
+IsDueOfJob rest now true job brief a =
+    (text : List ℕ) × Consumes rest now text × ((so_far job text).refusal ≡ None)
+    × (a ≡ run_answer job brief SourceFailed (so_far job text))
 
 -- what `check` says of a job that was read
 abbrev pub checked : Job → Answer
 checked job = record { text = job_line job; status = status.AllOk }
 
 abbrev pub IsDueOfVerb : Verb → Option (List ℕ) → Option (List ℕ) → Bool → Job → Answer → Type 0
-IsDueOfVerb Run rest now source job a = IsDueOfJob rest now source job a
+IsDueOfVerb (Run how) rest now source job a = IsDueOfJob rest now source job how.brief a
 IsDueOfVerb Check rest now source job a = a ≡ checked job
 
 abbrev pub IsDueOfFile : Verb → Option (List ℕ) → Option (List ℕ) → Bool → Result Job Stop → Answer → Type 0
@@ -76,11 +85,27 @@ IsDueOfName verb name files rest now true source a = a ≡ stopped stop.Shelf
 IsDueOfName verb name files rest now false source a =
     IfSome (named_job name files) (λ read. IsDueOfFile verb rest now source read a)
 
+-- a generated text
+abbrev pub generated : Generated → Answer
+generated OptionsText = record { text = options_text; status = status.AllOk }
+generated (RecordsText input) = record { text = records_text input.start input.events; status = status.AllOk }
+
+-- `bulk` is `run --brief` on generated records and the job of the generated options
+abbrev pub bulk_answer : Input → Result Job Stop → Answer
+bulk_answer input (Ok job) = run_answer job true ReadToEnd (records_of job (records_text input.start input.events))
+bulk_answer input (Err it) = stopped it
+
+abbrev pub IsDueOf :
+    Command → List ℕ → Option Files → Option (List ℕ) → Option (List ℕ) → Bool → Bool → Answer → Type 0
+IsDueOf (OnFile verb) name files rest now shelf source a = IsDueOfName verb name files rest now shelf source a
+IsDueOf (Generate text) name files rest now shelf source a = a ≡ generated text
+IsDueOf (Bulk input slots) name files rest now shelf source a = a ≡ bulk_answer input (file_job options_text)
+
 -- The answer that is due, where this is true of files and source. What isn't told leaves it open.
 pub record IsDue (words : List (List ℕ)) (files : Option Files) (rest now : Option (List ℕ)) (shelf source : Bool)
     (a : Answer) : Type 0 where
   pub due : MatchOption (command_of words) (a ≡ stopped stop.Words)
-      (λ it. IsDueOfName it.0 it.1 files rest now shelf source a)
+      (λ it. IsDueOf it (file_of words) files rest now shelf source a)
 
 -- the count rose between two moments
 abbrev pub rose : ℕ → ℕ → Bool

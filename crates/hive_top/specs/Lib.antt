@@ -7,3 +7,5 @@ pub mod Called
 pub mod RunsTo
 pub mod Works
 pub mod Journals
+pub mod Bulk
+pub mod Traces

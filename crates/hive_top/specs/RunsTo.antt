@@ -1,5 +1,5 @@
 -- What the run of a job came to, in the terms of its run and of its last flush.
-use Rattle.std.specs.Prelude.{◌≡◌, ◌⊎◌, ℕ, false, nat_eq, if◌then◌else◌, List, Option, Some}
+use Rattle.std.specs.Prelude.{◌≡◌, ◌⊎◌, ℕ, Bool, nat_eq, if◌then◌else◌, List, Option, Some}
 use Rattle.std.specs.Io.KnownBytes.{Appends, Keeps}
 use Rattle.hive_edge.specs.Fault.{Rose}
 use Rattle.hive_model.specs.EventRecord.{EventRecord}
@@ -26,26 +26,27 @@ status_by ending.Sink counts = status.Output
 status_by ending.NoMemory counts = status.NoMemory
 
 -- the whole text was written, and the status is that of how the input ended; or a prefix was
-abbrev pub WroteRun : Status → Option (List ℕ) → Option (List ℕ) → ℕ → ℕ → Job → List EventRecord → Option Last → Type 0
-WroteRun status.Output got got_now sink sink_now job given last = AppendsPrefix got got_now (written job false given last) × Rose sink sink_now
-WroteRun status.NoMemory got got_now sink sink_now job given last =
-    AppendsPrefix got got_now (written job false given last) × ((sink_now ≡ sink) ⊎ Rose sink sink_now)
-WroteRun other got got_now sink sink_now job given last =
+abbrev pub WroteRun :
+    Status → Option (List ℕ) → Option (List ℕ) → ℕ → ℕ → Job → Bool → List EventRecord → Option Last → Type 0
+WroteRun status.Output got got_now sink sink_now job brief given last = AppendsPrefix got got_now (written job brief given last) × Rose sink sink_now
+WroteRun status.NoMemory got got_now sink sink_now job brief given last =
+    AppendsPrefix got got_now (written job brief given last) × ((sink_now ≡ sink) ⊎ Rose sink sink_now)
+WroteRun other got got_now sink sink_now job brief given last =
     (end : Last) × (last ≡ Some end) × (other ≡ status_of (results job given) end)
-    × Appends got got_now (written job false given last) × (sink_now ≡ sink)
+    × Appends got got_now (written job brief given last) × (sink_now ≡ sink)
 
 -- the journal is a complete run over these records, or some run over them where memory ran out
 abbrev pub JournalBy : Status → Job → ℕ → List EventRecord → List Entry → Type 0
 JournalBy status.NoMemory job slots given journal = IsWholeRun job slots given journal
 JournalBy other job slots given journal = IsCompleteRun job slots given journal
 
-pub record RunsTo (job : Job) (slots : ℕ) (rest now got got_now : Option (List ℕ)) (source source_now sink sink_now : ℕ)
+pub record RunsTo (job : Job) (slots : ℕ) (brief : Bool) (rest now got got_now : Option (List ℕ)) (source source_now sink sink_now : ℕ)
     (ended : Status) (journal : List Entry) : Type 0 where
   pub given : List EventRecord
   pub last : Option Last
   pub read : IsRead job rest now given last
   pub source_count : CountsSource last source source_now
-  pub wrote : WroteRun ended got got_now sink sink_now job given last
+  pub wrote : WroteRun ended got got_now sink sink_now job brief given last
   pub run : JournalBy ended job slots given journal
 
 -- the sink was flushed, or failed at that; a call that was broken off flushes nothing

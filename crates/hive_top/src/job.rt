@@ -32,8 +32,8 @@ pub fn job_named<F: Shelf>(alloc: Global, name: &str, shelf: &mut F) -> Result<J
     }
 }
 
-// The job of an options text, which isn't over its limit.
-fn job_of_text(alloc: Global, text: &[u8]) -> Result<Job, Stop>
+/// The job of an options text, which isn't over its limit.
+pub fn job_of_text(alloc: Global, text: &[u8]) -> Result<Job, Stop>
     requires { length text.now ≤ MOST_OPTIONS_BYTES }
     ensures job { ReadsJob (Some (file_job text.now)) result }
     ensures valid { IfOk result IsValidJob }

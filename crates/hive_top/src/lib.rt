@@ -5,16 +5,20 @@
 //! traits of `hive_edge`, so a test hands it files and streams in memory.
 #![tactic(auto)]
 
+mod commands;
+mod generate;
 mod job;
 mod job_line;
+mod lines;
 mod ran;
 mod run;
 mod status;
 mod stop;
 mod top;
+mod trace;
 mod words;
 
+pub use commands::{Command, DEFAULT_SLOTS, Generated, How, Input, Verb};
 pub use ran::Ran;
-pub use run::SLOTS;
 pub use status::Status;
 pub use top::hive_plain;

@@ -1,50 +1,258 @@
-//! The words of the command line (docs/FORMATS.md, "Words").
-ghost use Rattle.std.specs.Prelude.{◌≡◌, take};
+//! Reading the words of the command line (docs/FORMATS.md, "Words").
+ghost use Rattle.std.specs.Prelude.{◌≡◌, ◌≤◌, ◌∷◌, IfSome, codes, take};
 ghost use Rattle.std.specs.Option.{option_map};
 ghost use Rattle.hive_model.specs.Same.{texts};
-ghost use Rattle.hive_top.specs.Words.{command_of, is_file, is_option as has_dashes, on_file, verb_of};
+ghost use Rattle.text_model.specs.declared.limits.TheConstants.{MOST_EVENTS};
+ghost use Rattle.hive_top.specs.Words.{IsSlots, IsWithin, bulk_of, check_of, command_of, file_of as second_word, flag_first, gen_of, how_of, input_first, is_file, is_option as has_dashes, number_in, records_of_words, run_of, slots_first, slots_value, where_none};
 
-/// What a command does with its FILE.
-#[derive(Clone, Copy, Debug, PartialEq, Eq)]
-pub enum Verb {
-    /// Runs the job on the records of the source.
-    Run,
-    /// Says what the options hold.
-    Check,
-}
+use crate::commands::{Command, DEFAULT_SLOTS, Generated, How, Input, Verb};
+use hive_model::MOST_SLOTS;
+use numerals::number_of;
+use text_model::MOST_EVENTS;
 
-/// A command's verb and its FILE, or `None` where the words are in no written form.
+/// What the words ask for, or `None` where they are in no written form.
 #[tactic(auto, unfolding(crate::specs::Words::command_of))]
-pub fn command<'a>(words: &[&'a str]) -> Option<(Verb, &'a str)>
-    ensures { option_map (λ it. (it.0, it.1.now)) result ≡ command_of (texts words.now) }
+pub fn command(words: &[&str]) -> Option<Command>
+    ensures is { result ≡ command_of (texts words.now) }
+    ensures within { IfSome result IsWithin }
 {
-    match words {
-        [word, file] => command_on(word, file),
-        _ => None,
+    match words.split_first() {
+        None => None,
+        Some((word, rest)) => command_named(word, rest),
     }
 }
 
-fn command_on<'a>(word: &str, file: &'a str) -> Option<(Verb, &'a str)>
-    ensures { option_map (λ it. (it.0, it.1.now)) result ≡ on_file word.now file.now }
+// The command of that name.
+#[tactic(auto, unfolding(crate::specs::Words::command_of))]
+fn command_named(word: &str, rest: &[&str]) -> Option<Command>
+    ensures is { result ≡ command_of (word.now ∷ texts rest.now) }
+    ensures within { IfSome result IsWithin }
+{
+    if word == "run" {
+        run(rest)
+    } else if word == "check" {
+        check(rest)
+    } else if word == "gen" {
+        generate(rest)
+    } else if word == "bulk" {
+        bulk(rest)
+    } else {
+        None
+    }
+}
+
+#[tactic(auto, unfolding(crate::specs::Words::run_of))]
+fn run(words: &[&str]) -> Option<Command>
+    ensures is { result ≡ run_of (texts words.now) }
+    ensures within { IfSome result IsWithin }
+{
+    match words.split_first() {
+        None => None,
+        Some((file, rest)) => run_file(file, rest),
+    }
+}
+
+#[tactic(auto, unfolding(crate::specs::Words::run_of))]
+fn run_file(file: &str, rest: &[&str]) -> Option<Command>
+    ensures is { result ≡ run_of (file.now ∷ texts rest.now) }
+    ensures within { IfSome result IsWithin }
 {
     if !is_file_name(file) {
         return None;
     }
-    match verb_named(word) {
-        Some(verb) => Some((verb, file)),
+    match how(rest) {
+        Some(how) => Some(Command::OnFile(Verb::Run(how))),
         None => None,
     }
 }
 
-fn verb_named(word: &str) -> Option<Verb>
-    ensures { result ≡ verb_of word.now }
+#[tactic(auto, unfolding(crate::specs::Words::check_of))]
+fn check(words: &[&str]) -> Option<Command>
+    ensures is { result ≡ check_of (texts words.now) }
+    ensures within { IfSome result IsWithin }
 {
-    if word == "run" {
-        Some(Verb::Run)
-    } else if word == "check" {
-        Some(Verb::Check)
+    match words.split_first() {
+        None => None,
+        Some((file, rest)) => {
+            if is_file_name(file) && rest.is_empty() {
+                Some(Command::OnFile(Verb::Check))
+            } else {
+                None
+            }
+        }
+    }
+}
+
+#[tactic(auto, unfolding(crate::specs::Words::gen_of))]
+fn generate(words: &[&str]) -> Option<Command>
+    ensures is { result ≡ gen_of (texts words.now) }
+    ensures within { IfSome result IsWithin }
+{
+    match words.split_first() {
+        None => None,
+        Some((word, rest)) => generate_named(word, rest),
+    }
+}
+
+#[tactic(auto, unfolding(crate::specs::Words::gen_of))]
+fn generate_named(word: &str, rest: &[&str]) -> Option<Command>
+    ensures is { result ≡ gen_of (word.now ∷ texts rest.now) }
+    ensures within { IfSome result IsWithin }
+{
+    if word == "options" {
+        if rest.is_empty() {
+            Some(Command::Generate(Generated::Options))
+        } else {
+            None
+        }
+    } else if word == "records" {
+        generate_records(rest)
     } else {
         None
+    }
+}
+
+#[tactic(auto, unfolding(crate::specs::Words::records_of_words))]
+fn generate_records(words: &[&str]) -> Option<Command>
+    ensures is { result ≡ records_of_words (texts words.now) }
+    ensures within { IfSome result IsWithin }
+{
+    let (input, rest) = input_first(words)?;
+    if !rest.is_empty() {
+        return None;
+    }
+    Some(Command::Generate(Generated::Records(input)))
+}
+
+#[tactic(auto, unfolding(crate::specs::Words::bulk_of))]
+fn bulk(words: &[&str]) -> Option<Command>
+    ensures is { result ≡ bulk_of (texts words.now) }
+    ensures within { IfSome result IsWithin }
+{
+    let (input, rest) = input_first(words)?;
+    let (slots, rest) = slots_first(rest)?;
+    if !rest.is_empty() {
+        return None;
+    }
+    Some(Command::Bulk(input, slots))
+}
+
+// START and EVENTS, and the words behind them.
+#[tactic(auto, unfolding(crate::specs::Words::input_first))]
+fn input_first<'a, 'b>(words: &'b [&'a str]) -> Option<(Input, &'b [&'a str])>
+    ensures is { option_map (λ it. (it.0, texts it.1.now)) result ≡ input_first (texts words.now) }
+    ensures few { IfSome result (λ it. it.0.events ≤ MOST_EVENTS) }
+{
+    let (start, rest) = words.split_first()?;
+    let (events, rest) = rest.split_first()?;
+    let start = number_in(0, u64::MAX, start)?;
+    let events = number_in(0, u64::from(MOST_EVENTS), events)?;
+    let input = Input {
+        start,
+        events: events as u32,
+    };
+    Some((input, rest))
+}
+
+// The options of a run.
+#[tactic(auto, unfolding(crate::specs::Words::how_of))]
+fn how(words: &[&str]) -> Option<How>
+    ensures is { result ≡ how_of (texts words.now) }
+    ensures slots { IfSome result (λ how. IsSlots how.slots) }
+{
+    let (slots, rest) = slots_first(words)?;
+    let (timeline, rest) = flag_first("--timeline", rest);
+    let (brief, rest) = flag_first("--brief", rest);
+    let how = How {
+        slots,
+        timeline,
+        brief,
+    };
+    alone(how, rest)
+}
+
+// The options of a run, where no word stands behind them.
+fn alone(how: How, rest: &[&str]) -> Option<How>
+    ensures is { result ≡ where_none (texts rest.now) how }
+    ensures same { IfSome result (λ it. it ≡ how) }
+{
+    if rest.is_empty() { Some(how) } else { None }
+}
+
+// The number of slots, and the words behind it.
+#[tactic(auto, unfolding(crate::specs::Words::slots_first))]
+fn slots_first<'a, 'b>(words: &'b [&'a str]) -> Option<(u8, &'b [&'a str])>
+    ensures is { option_map (λ it. (it.0, texts it.1.now)) result ≡ slots_first (texts words.now) }
+    ensures slots { IfSome result (λ it. IsSlots it.0) }
+{
+    match words.split_first() {
+        None => Some((DEFAULT_SLOTS, words)),
+        Some((word, rest)) => {
+            if *word == "--slots" {
+                slots_value(rest)
+            } else {
+                Some((DEFAULT_SLOTS, words))
+            }
+        }
+    }
+}
+
+fn slots_value<'a, 'b>(words: &'b [&'a str]) -> Option<(u8, &'b [&'a str])>
+    ensures is { option_map (λ it. (it.0, texts it.1.now)) result ≡ slots_value (texts words.now) }
+    ensures slots { IfSome result (λ it. IsSlots it.0) }
+{
+    match words.split_first() {
+        None => None,
+        Some((word, rest)) => match number_in(1, u64::from(MOST_SLOTS), word) {
+            Some(number) => Some((number as u8, rest)),
+            None => None,
+        },
+    }
+}
+
+// Whether the word of that name stands first, and the words behind it.
+#[tactic(auto, unfolding(crate::specs::Words::flag_first))]
+fn flag_first<'a, 'b>(name: &str, words: &'b [&'a str]) -> (bool, &'b [&'a str])
+    ensures { (result.0, texts result.1.now) ≡ flag_first name.now (texts words.now) }
+{
+    match words.split_first() {
+        None => (false, words),
+        Some((word, rest)) => {
+            if *word == name {
+                (true, rest)
+            } else {
+                (false, words)
+            }
+        }
+    }
+}
+
+// A number from the first bound to the second.
+#[tactic(auto, unfolding(crate::specs::Words::number_in))]
+fn number_in(low: u64, high: u64, word: &str) -> Option<u64>
+    ensures is { result ≡ number_in low high word.now }
+    ensures within { IfSome result (λ n. (low ≤ n) × (n ≤ high)) }
+{
+    match number_of(word.as_bytes()) {
+        Some(number) => {
+            if low <= number && number <= high {
+                Some(number)
+            } else {
+                None
+            }
+        }
+        None => None,
+    }
+}
+
+/// FILE, where a command has one: the second word.
+#[tactic(auto, unfolding(crate::specs::Words::file_of))]
+pub fn file_of<'a>(words: &[&'a str]) -> &'a str
+    ensures { result.now ≡ second_word (texts words.now) }
+{
+    match words {
+        [_, file, ..] => file,
+        _ => "",
     }
 }
 

@@ -79,29 +79,29 @@ working : (hall : Hall) (p : Pass) (in_hand : List Work) (t : Tally) (q : Pass) 
     IsWorking hall p in_hand t q
 working hall p in_hand t q claims backs dones works added queued taken it queue claims_are backs_are works_are =
     record {
-  added = added;
-  items = record {
-    begins = it.begins;
-    number_same = it.number_same;
-    own_more = it.own_more;
-    new = it.new;
-    only = it.stand.only;
-    claims_are = it.stand.claims_are ∙ claims_are;
-    backs_are = it.stand.backs_are ∙ backs_are;
-  };
-  within = it.stand.within;
-  queued = queued;
-  taken = taken;
-  queue = record {
-    put_more = queue.put_more;
-    took_more = queue.took_more;
-    astray = queue.astray;
-    balance = queue.balance ∙ ap (λ (n : ℕ). n + length queued + queue.astray) (sym it.stand.dones_are);
-    strays_are = queue.strays_are;
-  };
-  few = subst (λ (n : ℕ). n ≤ count_by is_claim (journal_of (seen q))) claims_are it.few;
-  accounted = λ m h. subst (λ (ws : List Work). AreAccounted (seen q) added ws m) works_are (it.accounted m h);
-}
+      added = added;
+      items = record {
+        begins = it.begins;
+        number_same = it.number_same;
+        own_more = it.own_more;
+        new = it.new;
+        only = it.stand.only;
+        claims_are = it.stand.claims_are ∙ claims_are;
+        backs_are = it.stand.backs_are ∙ backs_are;
+      };
+      within = it.stand.within;
+      queued = queued;
+      taken = taken;
+      queue = record {
+        put_more = queue.put_more;
+        took_more = queue.took_more;
+        astray = queue.astray;
+        balance = queue.balance ∙ ap (λ (n : ℕ). n + length queued + queue.astray) (sym it.stand.dones_are);
+        strays_are = queue.strays_are;
+      };
+      few = subst (λ (n : ℕ). n ≤ count_by is_claim (journal_of (seen q))) claims_are it.few;
+      accounted = λ m h. subst (λ (ws : List Work). AreAccounted (seen q) added ws m) works_are (it.accounted m h);
+    }
 
 passed-same : (p : Pass) (given strays dones : ℕ) (queued taken : List Executed) (q r : Pass) → QueuesNone q r →
     HasPassed p given strays dones queued taken q → HasPassed p given strays dones queued taken r
@@ -387,7 +387,7 @@ room hall p q r t v pass call w small sum =
     let ticket : v.ticket ≡ length (journal_of call.found) =
     step.said.ticket ∙ ap (λ (l : List Entry). length l) step.legal.journal in
     let fewer = claims-are-fewer (job_of hall) (slots_of hall) (records_of (seen r)) (journal_of (seen r)) led.state
-        led.led
+    led.led
     (omega (arith, long, parts)) in
     let few = w.few in
     (omega (arith, long, parts, ticket, fewer, few, small), sum)

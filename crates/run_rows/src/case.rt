@@ -18,6 +18,7 @@ pub(crate) struct Case<'a> {
     pub(crate) shelf: Vec<u64>,
     pub(crate) source: Vec<u64>,
     pub(crate) sink: Vec<u64>,
+    pub(crate) trace: Vec<u64>,
 }
 
 /// The case of a line, or `None` where the line is no row.
@@ -25,7 +26,18 @@ pub(crate) fn case_of(alloc: Global, line: &str) -> Result<Option<Case<'_>>, All
     ensures { IfOk result (λ o. IfSome o (λ case. (0 < case.piece) × (0 < case.takes))) }
 {
     let parts: Vec<&str> = line.split('|').collect(alloc)?;
-    let [words, file, records, piece, takes, shelf, source, sink] = parts.as_slice() else {
+    let [
+        words,
+        file,
+        records,
+        piece,
+        takes,
+        shelf,
+        source,
+        sink,
+        trace,
+    ] = parts.as_slice()
+    else {
         return Ok(None);
     };
     let piece = number_of(piece);
@@ -42,6 +54,7 @@ pub(crate) fn case_of(alloc: Global, line: &str) -> Result<Option<Case<'_>>, All
         shelf: numbers_of(alloc, shelf)?,
         source: numbers_of(alloc, source)?,
         sink: numbers_of(alloc, sink)?,
+        trace: numbers_of(alloc, trace)?,
     }))
 }
 

@@ -1,11 +1,11 @@
 //! Rows of whole runs over files and streams in memory: each line of the input is the words of a call, its options
-//! file, its records, and the calls of the outside that fail; what is printed is the status and what the sink got.
+//! file, its records, and the calls of the outside that fail; what is printed is the status, what the sink got and, where that
+//! is something, what the trace got.
 //! `stdout` holds what docs/FORMATS.md says.
 //!
-//! A row has eight parts with `|` between: the words; what the shelf has as `job`, a file of data/ or so many empty
-//! lines; the records, with
-//! `\n` for a line feed; how many bytes the source gives in one call; how many the sink takes in one call; and the
-//! numbers of the calls of shelf, source and sink that fail.
+//! A row has nine parts with `|` between: the words; what the shelf has as `job`, a file of data/ or so many empty
+//! lines; the records, with `\n` for a line feed; how many bytes the source gives in one call; how many the sink and the
+//! trace take in one call; and the numbers of the calls of shelf, source, sink and trace that fail.
 #![tactic(auto)]
 
 ghost use Rattle.std.specs.Prelude.{◌<◌};
@@ -65,8 +65,12 @@ fn print_case(rt: &HostRuntime, case: &Case<'_>) -> anyhow::Result<()>
     requires takes { 0 < case.now.takes }
 {
     let options = options_of(rt, case.file)?;
-    let (status, text) = written(rt.alloc(), case, options)?;
-    println!(rt; "{status} {text:?}")?;
+    let (status, text, trace) = written(rt.alloc(), case, options)?;
+    if trace.is_empty() {
+        println!(rt; "{status} {text:?}")?;
+    } else {
+        println!(rt; "{status} {text:?} trace {trace:?}")?;
+    }
     Ok(())
 }
 

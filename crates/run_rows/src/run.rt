@@ -19,12 +19,12 @@ struct Outside {
     trace: MemSink,
 }
 
-/// The exit status of the case's call, and what its sink got.
+/// The exit status of the case's call, and what its sink and its trace got.
 pub(crate) fn written(
     alloc: Global,
     case: &Case<'_>,
     options: Vec<u8>,
-) -> anyhow::Result<(u8, String)>
+) -> anyhow::Result<(u8, String, String)>
     requires piece { 0 < case.now.piece }
     requires takes { 0 < case.now.takes }
 {
@@ -32,7 +32,8 @@ pub(crate) fn written(
     let mut outside = make_outside(alloc, case, options)?;
     let status = status_of(alloc, words.as_slice(), &mut outside);
     let text = String::from_utf8_lossy(alloc, outside.sink.got())?;
-    Ok((status, text))
+    let trace = String::from_utf8_lossy(alloc, outside.trace.got())?;
+    Ok((status, text, trace))
 }
 
 fn status_of(alloc: Global, words: &[&str], outside: &mut Outside) -> u8 {
@@ -54,7 +55,7 @@ fn make_outside(alloc: Global, case: &Case<'_>, options: Vec<u8>) -> Result<Outs
     let shelf = shelf_of(alloc, case, options)?;
     let source = source_of(alloc, case)?;
     let sink = MemSink::new(alloc, case.takes, ROOM, case.sink.clone()?)?;
-    let trace = MemSink::new(alloc, 1, 1, Vec::new(alloc))?;
+    let trace = MemSink::new(alloc, case.takes, ROOM, case.trace.clone()?)?;
     Ok(Outside {
         shelf,
         source,

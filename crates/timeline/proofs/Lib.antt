@@ -1,6 +1,5 @@
 -- how texts are cut, and how numbers are written and read
 pub mod Cuts
-pub mod Digits
 pub mod Numbers
 -- the words of one entry: they are read as it, and no others are
 pub mod Words

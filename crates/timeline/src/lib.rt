@@ -10,7 +10,6 @@
 mod fields;
 pub mod laws;
 mod lines;
-mod numeral;
 mod pieces;
 mod reading;
 mod values;

@@ -5,8 +5,8 @@ ghost use Rattle.text_model.specs.Report.{fault_word};
 ghost use Rattle.text_model.specs.TimelineRead.{clone_of, fault_of, number_of_bits, place_of};
 ghost use Rattle.text_model.specs.Timeline.{nothing};
 
-use crate::numeral::number_of;
 use hive_model::{Fault, Place};
+use numerals::number_of;
 use text_model::TimelineCause;
 
 /// A ticket, or the place of an event.

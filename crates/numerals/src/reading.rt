@@ -1,4 +1,4 @@
-//! Numbers as a timeline writes them: in decimal, with no zero before other digits.
+//! Reading a number that is written in decimal, with no zero before other digits.
 ghost use Rattle.std.specs.Prelude.{◌≡◌, ◌^◌, ◌<◌, nat_lt, if◌then◌else◌, length, Some, None, true, false};
 ghost use Rattle.std.specs.Char.{is_ascii_digit};
 ghost use Rattle.std.specs.List.{list_all};
@@ -13,7 +13,7 @@ const MOST_BEFORE_A_DIGIT: u64 = u64::MAX / 10;
 /// The number that is written just so. `None` where a byte is no digit or there is none, where a zero stands
 /// before other digits, or where the number has over 64 bits.
 #[tactic(auto, unfolding(text_model::specs::Numerals::canonical_below, text_model::specs::Numerals::numeral_below))]
-pub(crate) fn number_of(text: &[u8]) -> Option<u64>
+pub fn number_of(text: &[u8]) -> Option<u64>
     ensures { result ≡ canonical_below (2 ^ 64) text.now }
 {
     if !is_canonical(text) || text.is_empty() || !are_digits(text) {

@@ -2,8 +2,8 @@ use Rattle.std.proofs.Common.{◌≤◌, ◌+◌, ◌^◌, arith}
 use Rattle.std.proofs.lemmas.Bool.Decides.{nat_tests}
 use Rattle.std.proofs.lemmas.Str.Parse.{digits_value-take-le}
 use Rattle.std.specs.Str.Parse.{digits_value}
-use Rattle.timeline.proofs.Digits.{value-more}
-use Rattle.timeline.proofs.numeral.value_of.Goals as goal
+use Rattle.numerals.proofs.Digits.{value-more}
+use Rattle.numerals.proofs.reading.value_of.Goals as goal
 
 pub returns-then-value-gt-MOST_BEFORE_A_DIGIT : goal.returns-then-value-gt-MOST_BEFORE_A_DIGIT
 returns-then-value-gt-MOST_BEFORE_A_DIGIT c =
