@@ -1,5 +1,5 @@
 -- Passes are made one by one.
-use Rattle.std.proofs.Common.{◌≡◌, ℕ, zero, suc, ◌+◌, ◌-◌, ◌<◌, ◌≤◌, List, [], ◌∷◌, ◌++◌, All, length, slice_get, Some, None, refl, sym, ap, ◌∙◌, subst, ⊎_elim, arith, append-nil, length-append}
+use Rattle.std.proofs.Common.{get_or, ◌≡◌, ℕ, zero, suc, ◌+◌, ◌-◌, ◌<◌, ◌≤◌, List, [], ◌∷◌, ◌++◌, All, length, slice_get, Some, None, refl, sym, ap, ◌∙◌, subst, ⊎_elim, arith, append-nil, length-append}
 use Rattle.std.proofs.lemmas.Bool.{cases_lt}
 use Rattle.std.proofs.lemmas.List.Elements.{All-pop, All-push, All-same}
 use Rattle.std.proofs.lemmas.Option.{none-some, same_Some}
@@ -14,10 +14,10 @@ use Rattle.turn_lock.specs.declared.kept.Kept.{Ghosts}
 use Rattle.turn_lock.specs.declared.pass.TurnPass.{TurnPass}
 use Rattle.turn_lock.specs.Pass.{IsIdle, rights_of, seen as seen_by, own as own_of}
 use Rattle.turn_lock.specs.Turn.{IsPassOf as IsTurnPassOf, all_rights}
-use Rattle.hive_hall.specs.Closing.{AreNumbered}
-use Rattle.hive_hall.specs.Dealing.{IsFirst, IsFresh, IsHallOf, IsLine, OpensLegally}
+use Rattle.hive_hall.specs.Closing.{AreNumbered, IsNewIn}
+use Rattle.hive_hall.specs.Dealing.{IsFirst, IsFresh, IsHallOf, IsLine, OpensLegally, opening_participant}
 use Rattle.hive_hall.specs.Legal.{IsHistoryOf}
-use Rattle.hive_hall.specs.Pass.{Lock, number_of, opening_in, own, seen, slots_in, slots_of}
+use Rattle.hive_hall.specs.Pass.{Knows, Lock, number_of, opening_in, own, seen, slots_in, slots_of}
 use Rattle.hive_hall.specs.declared.board.Board.{Board}
 use Rattle.hive_hall.specs.declared.hall.Hall.{Hall}
 use Rattle.hive_hall.specs.declared.pass.Pass.{Pass}
@@ -183,3 +183,17 @@ pub slots-of : (lock : Lock) (queue : Actions) (hall : Hall) (d : DeskState) →
     opening_in lock ≡ history d None → slots_of hall ≡ d.slots
 slots-of lock queue hall d of opened =
     ap (λ (l : Lock). slots_in (opening_in l)) of.turn ∙ (ap slots_in opened ∙ slots-told d)
+
+pub news : (lock : Lock) (queue : Actions) (hall : Hall) (d : DeskState) (passes : List Pass) →
+    IsHallOf lock queue hall → opening_in lock ≡ history d None → All (IsFresh lock queue) passes →
+    All (IsNewIn hall d) passes
+news lock queue hall d passes of opened all = λ k x within.
+    let p : Pass = get_or passes k x in
+    let fresh = all k x within in (
+      record {
+        knows = subst (λ l. Knows l hall.queue p) (sym of.turn)
+            (subst (λ q. Knows lock q p) (sym of.queue_is) fresh.knows);
+        idle = fresh.idle;
+      },
+      fresh.opened ∙ ap opening_participant opened,
+    )

@@ -11,3 +11,5 @@ pub mod Works
 pub mod Turns
 -- from the beginning to the end
 pub mod Runs
+-- the counts of all workers
+pub mod Totals

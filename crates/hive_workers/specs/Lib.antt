@@ -4,3 +4,4 @@ pub mod Items
 pub mod Outstanding
 pub mod Worked
 pub mod Working
+pub mod Totals

@@ -9,6 +9,7 @@ mod booking;
 mod ends;
 mod gate;
 mod giving;
+pub mod laws;
 mod limits;
 mod tally;
 mod worker;

@@ -1,5 +1,5 @@
 use Rattle.std.proofs.Common.{◌∙◌}
-use Rattle.hive_hall.proofs.Dealing.{begins, opens-legally, slots-of}
+use Rattle.hive_hall.proofs.Dealing.{begins, news, opens-legally, slots-of}
 use Rattle.hive_hall.proofs.hall.Hall.new.Goals as goal
 
 pub deal-requires-clause-lock : goal.deal-requires-clause-lock
@@ -15,3 +15,8 @@ deal-requires-clause-legal c =
 pub returns-in-Ok-new-clause-slots : goal.returns-in-Ok-new-clause-slots
 returns-in-Ok-new-clause-slots c =
     slots-of _ _ c.deal.result.0 c.args.desk c.deal.ensures.hall c.in-Ok-new.ensures.opening
+
+pub returns-in-Ok-new-clause-passes : goal.returns-in-Ok-new-clause-passes
+returns-in-Ok-new-clause-passes c =
+    news _ _ c.deal.result.0 c.args.desk c.deal.result.1.items c.deal.ensures.hall c.in-Ok-new.ensures.opening
+    c.deal.ensures.passes
