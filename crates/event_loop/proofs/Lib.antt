@@ -10,6 +10,9 @@ pub mod Ran
 -- counts, and results that wait
 pub mod Tallies
 pub mod Window
+-- what an entry makes of the state, and the tally that holds on; claims may be outstanding
+pub mod Moves
+pub mod Tallying
 -- a turn that ends an event
 pub mod Ended
 -- what each call of the loop leaves true

@@ -15,21 +15,22 @@ use Rattle.hive_model.specs.EventRecord.{EventRecord}
 use Rattle.hive_model.specs.EventResult.{EventResult}
 use Rattle.hive_model.specs.History.{DeskState}
 use Rattle.hive_model.specs.Job.{Job}
-use Rattle.hive_model.specs.Machine.{Busy, Finished, Machine, opening}
+use Rattle.hive_model.specs.Machine.{Busy, Machine, opening}
 use Rattle.hive_model.specs.Replay.{IsAtEnd, replay, replay_from}
 use Rattle.report_text.specs.Tallied.{CountsAll}
 use Rattle.report_text.specs.declared.counts.Counts.{Counts}
-use Rattle.scheduler_core.proofs.Claims.{taken, told}
+use Rattle.scheduler_core.proofs.Claims.{told}
 use Rattle.scheduler_core.proofs.Keeping.{in-state}
 use Rattle.scheduler_core.specs.Says.{IsOver, is_closed, is_empty, is_full, opening_desk}
 use Rattle.scheduler_core.specs.State.{InState, IsDesk}
-use Rattle.event_loop.proofs.Ended.{all-admitted}
+use Rattle.event_loop.proofs.Moves.{all-admitted}
 use Rattle.event_loop.proofs.Ran.{work-is}
 use Rattle.event_loop.proofs.Tallies.{counted-complete}
-use Rattle.event_loop.proofs.Window.{first-record, length-moved, move-waits, next-open, none-wait}
-use Rattle.event_loop.specs.Loop.{HandsOut, IsIdleAt, IsLoop, IsOverAt, IsResultOf, KeepsOn, LoopState, TurnSays, results_of, work_at}
+use Rattle.event_loop.proofs.Tallying.{is-quiet, opening-tallied, running-of, tallied-alike, tallied-first, tallied-hands-out}
+use Rattle.event_loop.proofs.Window.{next-open}
+use Rattle.event_loop.specs.Loop.{HandsOut, IsIdleAt, IsLoop, IsOverAt, KeepsOn, LoopState, TurnSays, results_of, work_at}
 use Rattle.event_loop.specs.Performing.{IsAtRest, RanOn, RunSays}
-use Rattle.event_loop.specs.Running.{AreWaiting, DeskKeeps, EndsNone, IsGoing, IsRunning}
+use Rattle.event_loop.specs.Running.{DeskKeeps, EndsNone, IsGoing, IsRunning}
 use Rattle.event_loop.specs.Waiting.{MovesUp, TakesFirst, Waits, waiting_at}
 use Rattle.event_loop.specs.declared.turn.Turn.{Turn}
 use Rattle.event_loop.specs.declared.turn.Turn.TheVariants as turns
@@ -42,10 +43,11 @@ pub is-loop : (d : DeskState) (waiting : Waits) (handed : ℕ) (counts : Counts)
     IsRunning d waiting handed counts →
     IsLoop (seen d handed counts)
 is-loop d waiting handed counts k = record {
-  desk = k.desk;
-  handed = k.within;
-  window = k.window;
-  counted = in-state d k.machine (λ m. CountsAll (results_of m.finished) counts) k.quiet.led k.counted;
+  desk = k.tally.desk;
+  handed = k.tally.within;
+  window = k.tally.window;
+  counted = in-state d k.tally.machine (λ m. CountsAll (results_of m.finished) counts) k.tally.led
+      k.tally.counted;
 }
 
 -- at first
@@ -54,22 +56,14 @@ begins : (job : Job) (slots : ℕ) (waiting : Waits) (counts : Counts) → IsDes
     waiting ≡ replicate (2 * slots) None → counts ≡ record { events = 0; ok = 0; failed = 0; stalled = 0 } →
     IsRunning (opening_desk job slots) waiting 0 counts
 unfolding replay replay_from
-begins job slots waiting counts desk empty zero = record {
-  desk = desk;
-  few = omega arith;
-  within = omega arith;
-  window = omega arith;
-  room = ap length empty ∙ length-replicate (2 * slots) None;
-  machine = opening slots;
-  quiet = record {
-    led = refl;
-    slots = length-replicate slots None;
-    quiet = sum_by-replicate claims_of slots None ∙ omega arith;
-  };
-  counted = subst (CountsAll []) (sym zero) (record
-      { events = refl; ok = refl; failed = refl; stalled = refl });
-  holds = subst (λ w. AreWaiting job [] [] 0 w) (sym empty) (none-wait job [] (2 * slots));
-}
+begins job slots waiting counts desk empty zero =
+    running-of (opening_desk job slots) waiting 0 counts (opening slots)
+    (opening-tallied job slots waiting counts desk empty zero)
+    (record {
+      led = refl;
+      slots = length-replicate slots None;
+      quiet = sum_by-replicate claims_of slots None ∙ omega arith;
+    })
 
 pub begins-going : (job : Job) (slots count : ℕ) (d : DeskState) (waiting : Waits) (counts : Counts) →
     d ≡ opening_desk job slots → IsDesk d → count ≡ slots → waiting ≡ replicate (2 * count) None →
@@ -86,28 +80,8 @@ begins-going job slots count d waiting counts is desk as_many empty zero = recor
 pub goes-on : (d : DeskState) (old new : Waits) (handed : ℕ) (counts : Counts) (r : EventResult) →
     IsRunning d old handed counts → MovesUp old (Some r) new → IsRunning d new (handed + 1) counts
 goes-on d old new handed counts r k up =
-    let m = k.machine in
-    let once = run-once d.job d.slots d.admitted d.journal m k.quiet.led in
-    let all = all-admitted d m k.desk k.quiet.led in
-    let first = taken (slice_get d.admitted handed) (λ event. IsResultOf d.job event r)
-    (first-record d.job d.admitted m.finished handed r old new k.holds up) in
-    let low = slice_get_within d.admitted handed first.value first.was in
-    let size = length-moved old new (Some r) up in
-    record {
-      desk = k.desk;
-      few = k.few;
-      within = omega (arith, low);
-      window = omega (arith, k.window);
-      room = size ∙ k.room;
-      machine = m;
-      quiet = k.quiet;
-      counted = k.counted;
-      holds = move-waits d.job d.admitted m.finished handed r old new k.holds up
-          (λ place far.
-          let none = once.later place (omega (arith, far, all)) in
-          omega (arith, none))
-          (omega (arith, k.window, k.room));
-    }
+    running-of d new (handed + 1) counts k.tally.machine (tallied-hands-out d old new handed counts r k.tally up)
+    (is-quiet d old handed counts k)
 
 pub hands-out : (d : DeskState) (old new : Waits) (handed : ℕ) (counts : Counts) (r : EventResult) →
     IsRunning d old handed counts → MovesUp old (Some r) new →
@@ -116,7 +90,7 @@ hands-out d old new handed counts r k up = record {
   desk = refl;
   counts = refl;
   handed = refl;
-  result = first-record d.job d.admitted k.machine.finished handed r old new k.holds up;
+  result = tallied-first d old new handed counts r k.tally up;
 }
 
 -- after an algorithm was performed, or put back
@@ -124,24 +98,13 @@ hands-out d old new handed counts r k up = record {
 pub ran-goes-on : (d after : DeskState) (waiting : Waits) (handed less : ℕ) (counts : Counts) →
     IsRunning d waiting handed counts → RanOn d less after → IsRunning after waiting handed counts
 ran-goes-on d after waiting handed less counts k it =
+    let m = k.tally.machine in
     let keeps = it.keeps in
-    let same : it.old ≡ k.machine = same_Some it.old k.machine (sym it.was.led ∙ k.quiet.led) in
-    let finished : it.new.finished ≡ k.machine.finished = it.finished ∙ ap (λ (m : Machine). m.finished) same
-    in
-    let records = ap length keeps.records in
-    record {
-      desk = it.desk;
-      few = omega (arith, records, k.few);
-      within = omega (arith, records, k.within);
-      window = omega (arith, records, keeps.slots, k.window);
-      room = k.room ∙ ap (λ n. 2 * n) (sym keeps.slots);
-      machine = it.new;
-      quiet = it.now;
-      counted = subst (λ (l : List Finished). CountsAll (results_of l) counts) (sym finished) k.counted;
-      holds = subst (λ j. AreWaiting j after.admitted it.new.finished handed waiting) (sym keeps.job)
-          (subst (λ l. AreWaiting d.job l it.new.finished handed waiting) (sym keeps.records)
-          (subst (λ l. AreWaiting d.job d.admitted l handed waiting) (sym finished) k.holds));
-    }
+    let same : it.old ≡ m = same_Some it.old m (sym it.was.led ∙ k.tally.led) in
+    let finished : it.new.finished ≡ m.finished = it.finished ∙ ap (λ (n : Machine). n.finished) same in
+    running-of after waiting handed counts it.new
+    (tallied-alike d after waiting handed counts it.new k.tally it.desk
+    (record { led = it.now.led; slots = it.now.slots }) finished keeps.job keeps.slots keeps.records) it.now
 
 pub ran-less : (d after : DeskState) → RanOn d 1 after → work_at after < work_at d
 ran-less d after it = omega (arith, work-is d it.old it.was.led, work-is after it.new it.now.led, it.work)
@@ -156,16 +119,16 @@ none-pass p (None ∷ slots) nothing empty =
 none-pass p (Some b ∷ slots) nothing empty = absurd (cc)
 
 pub all-handed : (d : DeskState) (waiting : Waits) (handed : ℕ) (counts : Counts) →
-    (k : IsRunning d waiting handed counts) → waiting_at waiting 0 ≡ None → is_empty k.machine ≡ true →
+    (k : IsRunning d waiting handed counts) → waiting_at waiting 0 ≡ None → is_empty k.tally.machine ≡ true →
     handed ≡ length d.admitted
 all-handed d waiting handed counts k none empty =
-    let m = k.machine in
-    let once = run-once d.job d.slots d.admitted d.journal m k.quiet.led in
-    let all = all-admitted d m k.desk k.quiet.led in
+    let m = k.tally.machine in
+    let once = run-once d.job d.slots d.admitted d.journal m k.tally.led in
+    let all = all-admitted d m k.tally.desk k.tally.led in
     elim (cases_lt handed (length d.admitted)) [
       | inl low ↦
-          let some : 0 < length waiting = omega (arith, k.desk.some, k.room) in
-          let gone = next-open d.job d.admitted m.finished handed waiting k.holds none some in
+          let some : 0 < length waiting = omega (arith, k.tally.desk.some, k.tally.room) in
+          let gone = next-open d.job d.admitted m.finished handed waiting k.tally.holds none some in
           let nowhere = none-pass (has_place (handed + 1)) m.slots refl empty in
           absurd (omega (
             arith,
@@ -173,7 +136,7 @@ all-handed d waiting handed counts k none empty =
             gone,
             nowhere,
           ))
-      | inr high ↦ omega (arith, high, k.within)
+      | inr high ↦ omega (arith, high, k.tally.within)
     ]
 
 -- slots that are all empty aren't all busy
@@ -187,16 +150,16 @@ pub is-idle : (d : DeskState) (waiting : Waits) (handed : ℕ) (counts : Counts)
     IsRunning d waiting handed counts →
     waiting_at waiting 0 ≡ None → InState d IsAtRest → IsIdleAt (seen d handed counts)
 is-idle d waiting handed counts k none rests =
-    let it = told (replay d.job d.slots d.admitted d.journal) IsAtRest k.machine k.quiet.led rests in
+    let it = told (replay d.job d.slots d.admitted d.journal) IsAtRest k.tally.machine k.tally.led rests in
     let all = all-handed d waiting handed counts k none it.empty in
-    let some : 0 < length k.machine.slots = omega (arith, k.quiet.slots, k.desk.some) in
+    let some : 0 < length k.tally.machine.slots = omega (arith, k.tally.slots, k.tally.desk.some) in
     record {
       all = all;
       room = record {
-        on = sym (last-closes d.job d.slots d.admitted d.journal k.machine k.quiet.led) ∙ it.on;
-        free = in-state d k.machine (λ (m : Machine). is_full m ≡ false) k.quiet.led
-            (empty-free k.machine.slots it.empty some);
-        few = omega (arith, all, k.desk.some);
+        on = sym (last-closes d.job d.slots d.admitted d.journal k.tally.machine k.tally.led) ∙ it.on;
+        free = in-state d k.tally.machine (λ (m : Machine). is_full m ≡ false) k.tally.led
+            (empty-free k.tally.machine.slots it.empty some);
+        few = omega (arith, all, k.tally.desk.some);
       };
     }
 
@@ -204,20 +167,20 @@ pub is-over : (d : DeskState) (waiting : Waits) (handed : ℕ) (counts : Counts)
     IsRunning d waiting handed counts →
     waiting_at waiting 0 ≡ None → InState d IsOver → IsOverAt (seen d handed counts)
 is-over d waiting handed counts k none over =
-    let m = k.machine in
-    let it = told (replay d.job d.slots d.admitted d.journal) IsOver m k.quiet.led over in
+    let m = k.tally.machine in
+    let it = told (replay d.job d.slots d.admitted d.journal) IsOver m k.tally.led over in
     let done : IsAtEnd d.admitted m = record {
       closed = it.0;
       empty = it.1;
-      all = all-admitted d m k.desk k.quiet.led;
+      all = all-admitted d m k.tally.desk k.tally.led;
     } in
     record {
       all = all-handed d waiting handed counts k none it.1;
-      closed = sym (last-closes d.job d.slots d.admitted d.journal m k.quiet.led) ∙ it.0;
-      complete = in-state d m (IsAtEnd d.admitted) k.quiet.led done;
-      counts = λ uncut. counted-complete d.job d.slots d.admitted d.journal m counts k.desk.valid uncut
-          k.quiet.led
-          done k.counted;
+      closed = sym (last-closes d.job d.slots d.admitted d.journal m k.tally.led) ∙ it.0;
+      complete = in-state d m (IsAtEnd d.admitted) k.tally.led done;
+      counts = λ uncut. counted-complete d.job d.slots d.admitted d.journal m counts k.tally.desk.valid uncut
+          k.tally.led
+          done k.tally.counted;
     }
 
 -- a turn in which no event ended
@@ -305,7 +268,7 @@ waits-within d waiting handed counts k waits = go (waiting_at waiting 0) refl wa
   where
     go : (o : Option EventResult) → waiting_at waiting 0 ≡ o → is_some o ≡ true → handed < length d.admitted
     go (Some r) e h =
-        let it = some-of (slice_get d.admitted (handed + 0)) _ (k.holds.results 0 r e) in
+        let it = some-of (slice_get d.admitted (handed + 0)) _ (k.tally.holds.results 0 r e) in
         let low = slice_get_within d.admitted (handed + 0) it.0 it.1 in
         omega (arith, low)
     go None e h = absurd (cc)

@@ -1,5 +1,5 @@
--- A loop between two turns: nothing is outstanding in its desk, and a result waits exactly for each event
--- that has ended and whose result wasn't handed out.
+-- A loop between two turns: a result waits exactly for each event that has ended and whose result wasn't handed
+-- out, and nothing is outstanding in its desk. The first holds within a turn, too (`IsTallied`).
 use Rattle.std.specs.Prelude.{◌≡◌, ℕ, ◌+◌, ◌*◌, ◌<◌, ◌≤◌, ◌^◌, Bool, true, false, cond, is_some, List, length, Some, IsSomeAnd, slice_get}
 use Rattle.std.specs.List.{count_by}
 use Rattle.core_laws.specs.Once.{ended_at}
@@ -34,7 +34,9 @@ pub record IsQuiet (d : DeskState) (m : Machine) : Type 0 where
   pub slots : length m.slots ≡ d.slots
   pub quiet : claims_out m.slots ≡ 0
 
-pub record IsRunning (d : DeskState) (waiting : Waits) (handed : ℕ) (counts : Counts) : Type 0 where
+-- The results of the events that have ended: they are counted, those of the first places went out, and each
+-- other one waits at its place. Claims may be outstanding.
+pub record IsTallied (d : DeskState) (waiting : Waits) (handed : ℕ) (counts : Counts) : Type 0 where
   pub desk : IsDesk d
   -- counts are numbers of 32 bits
   pub few : length d.admitted < 2 ^ 32
@@ -42,9 +44,15 @@ pub record IsRunning (d : DeskState) (waiting : Waits) (handed : ℕ) (counts : 
   pub window : length d.admitted ≤ handed + 2 * d.slots
   pub room : length waiting ≡ 2 * d.slots
   pub machine : Machine
-  pub quiet : IsQuiet d machine
+  pub led : replay d.job d.slots d.admitted d.journal ≡ Some machine
+  pub slots : length machine.slots ≡ d.slots
   pub counted : CountsAll (results_of machine.finished) counts
   pub holds : AreWaiting d.job d.admitted machine.finished handed waiting
+
+pub record IsRunning (d : DeskState) (waiting : Waits) (handed : ℕ) (counts : Counts) : Type 0 where
+  pub tally : IsTallied d waiting handed counts
+  -- nothing is outstanding
+  pub quiet : claims_out tally.machine.slots ≡ 0
 
 -- the desk after a turn in which no record came
 pub record DeskKeeps (d after : DeskState) : Type 0 where

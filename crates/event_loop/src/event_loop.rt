@@ -2,6 +2,7 @@
 ghost use Rattle.std.specs.Prelude.{◌≡◌, ◌≤◌, ◌<◌, ◌↔◌, IfOk, IsTrue, OnErr, OnOk, length};
 ghost use Rattle.std.specs.Arc.{arc_value};
 ghost use Rattle.event_loop.specs.Loop.{Admits, Closes, HasRoom, IsLoop, TurnSays, opening_loop};
+ghost use Rattle.event_loop.specs.Running.{IsGoing};
 ghost use Rattle.hive_model.specs.Fits.{Fits};
 ghost use Rattle.hive_model.specs.Valid.{IsValidJob};
 ghost use Rattle.hive_model.specs.declared.limits.TheConstants.{MOST_SLOTS};
@@ -66,6 +67,29 @@ impl EventLoop {
             handed: 0,
             closed: false,
         })
+    }
+
+    /// Goes on with a desk in which nothing is outstanding, with the results that wait and the counts of the
+    /// events that have ended in it. So many results were handed out, and `closed` tells whether it was said that
+    /// no further event comes.
+    pub fn resume(
+        desk: Desk,
+        waiting: Waiting,
+        counts: Counts,
+        handed: u64,
+        closed: bool,
+    ) -> EventLoop
+        requires { IsGoing desk waiting handed counts closed }
+        ensures is { result ≡ record { desk = desk; handed = handed; counts = counts } }
+        ensures is_loop { IsLoop result }
+    {
+        EventLoop {
+            desk,
+            waiting,
+            counts,
+            handed,
+            closed,
+        }
     }
 
     /// The job.

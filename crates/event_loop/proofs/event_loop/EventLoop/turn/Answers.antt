@@ -1,5 +1,5 @@
-use Rattle.std.proofs.Common.{◌+◌, subst}
-use Rattle.event_loop.proofs.Loops.{goes-on, hands-out, is-loop, none-first, seen, turn-says}
+use Rattle.std.proofs.Common.{◌+◌, ◌∙◌, subst}
+use Rattle.event_loop.proofs.Loops.{goes-on, hands-out, is-loop, none-first, seen, turn-keeps, turn-running, turn-says}
 use Rattle.event_loop.proofs.event_loop.EventLoop.turn.Goals as goal
 use Rattle.event_loop.specs.Loop.{HandsOut, LoopState, TurnSays}
 
@@ -18,6 +18,16 @@ returns-in-Some-clause-says c =
 
 pub returns-in-Some-clause-is_loop : goal.returns-in-Some-clause-is_loop
 returns-in-Some-clause-is_loop c = is-loop _ _ _ _ (invariant_of-self c).running
+
+pub invariant_of-self-2 : goal.invariant_of-self-2
+invariant_of-self-2 c =
+    let k = none-first _ _ _ _ _ c.self.invariant.running c.in_default.ensures in
+    let none = c.if-end_one.ensures in
+    let says = c.run_one.ensures.says in
+    record {
+      running = turn-running _ _ _ _ _ _ _ _ c.run_one.result k.0 none says;
+      last = turn-keeps _ _ _ _ _ _ _ c.run_one.result none says ∙ c.self.invariant.last;
+    }
 
 pub returns-clause-says : goal.returns-clause-says
 returns-clause-says c =
