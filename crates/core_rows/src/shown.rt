@@ -15,7 +15,7 @@ use timeline::print;
 /// The slot, or which record came back.
 pub(crate) fn admit_text(alloc: Global, answer: &Admit, any: &str) -> Result<String, AllocError> {
     match answer {
-        Admit::At(slot) => {
+        Admit::At { slot, place: _ } => {
             if any == "any" {
                 return told(alloc, "At");
             }

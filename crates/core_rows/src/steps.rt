@@ -135,7 +135,7 @@ fn put_answer(
     counts: &mut Counts,
 ) -> Result<(), AllocError> {
     match answer {
-        Admit::At(slot) => {
+        Admit::At { slot, place: _ } => {
             counts.check(slot < slots);
             Ok(())
         }

@@ -87,7 +87,7 @@ fn admit_record(
     ensures { IsDeskOf job.now desk.new }
 {
     match desks::admit(alloc, job, desk, event) {
-        Admit::At(_) => {
+        Admit::At { .. } => {
             totals.enter();
             Ok(true)
         }

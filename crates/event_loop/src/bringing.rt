@@ -20,7 +20,7 @@ pub(crate) fn bring(alloc: Global, desk: &mut Desk, event: EventRecord) -> Resul
     ensures desk { IsDesk desk.new }
 {
     match desk.admit(alloc, event) {
-        Admit::At(_) => Ok(()),
+        Admit::At { .. } => Ok(()),
         Admit::Closed(_) => unreachable!(),
         Admit::Full(_) => unreachable!(),
         Admit::NoMemory(_) => Err(AllocError),

@@ -27,7 +27,7 @@ none found left same = inl same
 
 module _ (found left : List Item) where
   admit-adds : (event : EventRecord) (answer : Admit) → AdmitAdds event answer found left → MayFollow found left
-  admit-adds event (At slot) added = one _ found left added
+  admit-adds event (At slot place) added = one _ found left added
   admit-adds event (Closed back) added = none found left added
   admit-adds event (Full back) added = none found left added
   admit-adds event (NoRoom back) added = none found left added

@@ -57,15 +57,16 @@ module _ (d after : DeskState) (stop : Option ℕ) (desk : IsDesk d) (still : Is
 
   pub admits : (event : EventRecord) (answer : Admit) → AdmitSays d event answer after →
       AdmitHere d.job d.slots event answer (history d stop) (history after stop)
-  admits event (At slot) says =
+  admits event (At slot place) says =
+      let appended = says.1 in
       record {
         before = d;
         legal = is-history d.job d.slots d stop refl refl desk;
         after = after;
-        still_legal = is-history d.job d.slots after stop (ap (λ (x : DeskState). x.job) says)
-            (ap (λ (x : DeskState). x.slots) says) still;
+        still_legal = is-history d.job d.slots after stop (ap (λ (x : DeskState). x.job) appended)
+            (ap (λ (x : DeskState). x.slots) appended) still;
         said = says;
-        added = ap (λ (x : DeskState). history x stop) says ∙ history-admitted d stop slot event desk within;
+        added = ap (λ (x : DeskState). history x stop) appended ∙ history-admitted d stop slot event desk within;
       }
   admits event (Closed back) says =
       stays (λ x y. AdmitSays x event (Closed back) y) (AdmitAdds event (Closed back)) says.1 says (λ same. same)

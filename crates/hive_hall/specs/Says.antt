@@ -52,7 +52,7 @@ pub record IsStep (job : Job) (slots : ℕ) (says : Cores) (adds : Histories) (f
 -- admit
 
 abbrev pub AdmitAdds : EventRecord → Admit → Histories
-AdmitAdds event (At slot) found left = Adds (Admitted slot (length (records_of found) + 1) event) found left
+AdmitAdds event (At slot place) found left = Adds (Admitted slot (length (records_of found) + 1) event) found left
 AdmitAdds event (Closed back) found left = AddsNone found left
 AdmitAdds event (Full back) found left = AddsNone found left
 AdmitAdds event (NoRoom back) found left = AddsNone found left

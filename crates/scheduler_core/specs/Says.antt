@@ -62,7 +62,7 @@ admitted_to d slot event = record d {
 }
 
 abbrev pub AdmitSays : DeskState → EventRecord → Admit → DeskState → Type 0
-AdmitSays d event (At slot) after = after ≡ admitted_to d slot event
+AdmitSays d event (At slot place) after = (place ≡ length d.admitted + 1) × (after ≡ admitted_to d slot event)
 AdmitSays d event (Closed back) after = (back ≡ event) × (after ≡ d) × (is_closed d ≡ true)
 AdmitSays d event (Full back) after =
     (back ≡ event) × (after ≡ d) × (is_closed d ≡ false) × InState d (λ m. is_full m ≡ true)

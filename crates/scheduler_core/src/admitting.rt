@@ -12,8 +12,8 @@ use std::alloc::Global;
 
 impl Desk {
     /// Admits an event: it takes an empty slot, and the place after that of the last one (docs/PROCESSING.md,
-    /// "Slots"). Room is made in the journal for all that the events in flight come to, so that no later call needs
-    /// memory for an entry, but for claims of what was put back.
+    /// "Slots"), and both are told. Room is made in the journal for all that the events in flight come to, so that no
+    /// later call needs memory for an entry, but for claims of what was put back.
     pub fn admit(&mut self, alloc: Global, event: EventRecord) -> Admit
         requires { Fits self.old.job event }
         ensures says { AdmitSays self.old event result self.new }
@@ -37,7 +37,7 @@ impl Desk {
                 enter(&mut self.journal, Entry::Admit { slot, place });
                 self.owed += 1;
                 keep(&mut self.admitted, event);
-                Admit::At(slot)
+                Admit::At { slot, place }
             }
             Err(_) => Admit::NoMemory(event),
         }

@@ -12,8 +12,8 @@ pub struct Finished {
 /// What came of a record that was brought. Where it wasn't admitted it is handed back.
 #[derive(Debug, Drop)]
 pub enum Admit {
-    /// It has the slot of this number.
-    At(u8),
+    /// It has the slot of this number, and this place in the input, from 1.
+    At { slot: u8, place: u64 },
     /// It was said before that no further event comes.
     Closed(EventRecord),
     /// Every slot is busy.
