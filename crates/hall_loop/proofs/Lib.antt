@@ -1,0 +1,13 @@
+pub mod Given
+pub mod Others
+pub mod Works
+pub mod Telling
+pub mod Steps
+pub mod HandedOut
+pub mod Admissions
+pub mod Retirements
+pub mod Closing
+pub mod Openings
+pub mod Recalls
+pub mod Settlements
+pub mod Turns

@@ -1,0 +1,30 @@
+use Rattle.std.proofs.Common.{refl}
+use Rattle.hall_loop.proofs.Steps.{back-kept}
+use Rattle.scheduler_core.specs.declared.answers.Give.TheVariants.{Booked, NotOutstanding}
+use Rattle.hall_loop.proofs.hall_loop.HallLoop.put_back.Goals as goal
+
+pub returns-in-Booked-clause-says : goal.returns-in-Booked-clause-says
+returns-in-Booked-clause-says g c = record {
+  given = (back-kept c.args.hall.now c.args.self.now.pass c.back.new.pass _ _ _ _ _ _ c.requires.beside
+      c.in-Booked.ensures.pass c.args.work Booked c.in-Booked.ensures.call).same;
+  handed = refl;
+}
+
+pub returns-in-Booked-clause-beside : goal.returns-in-Booked-clause-beside
+returns-in-Booked-clause-beside g c =
+    (back-kept c.args.hall.now c.args.self.now.pass c.back.new.pass _ _ _ _ _ _ c.requires.beside
+    c.in-Booked.ensures.pass c.args.work Booked c.in-Booked.ensures.call).on
+
+pub returns-in-NotOutstanding-clause-says : goal.returns-in-NotOutstanding-clause-says
+returns-in-NotOutstanding-clause-says g c = record {
+  given = (back-kept c.args.hall.now c.args.self.now.pass c.back.new.pass _ _ _ _ _ _ c.requires.beside
+      c.in-NotOutstanding.ensures.pass c.args.work (NotOutstanding c.in-NotOutstanding.work)
+      c.in-NotOutstanding.ensures.call).same;
+  handed = refl;
+}
+
+pub returns-in-NotOutstanding-clause-beside : goal.returns-in-NotOutstanding-clause-beside
+returns-in-NotOutstanding-clause-beside g c =
+    (back-kept c.args.hall.now c.args.self.now.pass c.back.new.pass _ _ _ _ _ _ c.requires.beside
+    c.in-NotOutstanding.ensures.pass c.args.work (NotOutstanding c.in-NotOutstanding.work)
+    c.in-NotOutstanding.ensures.call).on

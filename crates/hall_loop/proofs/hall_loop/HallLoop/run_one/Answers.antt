@@ -1,0 +1,69 @@
+use Rattle.std.proofs.Common.{refl}
+use Rattle.hall_loop.proofs.Steps.{claim-kept}
+use Rattle.hall_loop.proofs.Turns.{says-on}
+use Rattle.hive_hall.specs.declared.answers.Ask.TheVariants.{Told, Stopped}
+use Rattle.hall_loop.proofs.hall_loop.HallLoop.run_one.Goals as goal
+
+pub run_claim-requires-clause-beside : goal.run_claim-requires-clause-beside
+run_claim-requires-clause-beside g c κs within =
+    (claim-kept c.args.hall.now c.args.self.now.pass c.claim.new.pass _ _ _ _ _ _ c.requires
+    c.in-Told-Job.ensures.pass (Told c.in-Told-Job.field-0) c.in-Told-Job.ensures.call).on
+
+pub wait-requires : goal.wait-requires
+wait-requires g c =
+    (claim-kept c.args.hall.now c.args.self.now.pass c.claim.new.pass _ _ _ _ _ _ c.requires
+    c.in-Told-Idle.ensures.pass (Told c.in-Told-Idle.field-0) c.in-Told-Idle.ensures.call).on
+
+pub returns-in-Told-Job-clause-says : goal.returns-in-Told-Job-clause-says
+returns-in-Told-Job-clause-says g c =
+    says-on c.args.hall.now c.args.self.now _ c.run_claim.new.self
+    (record {
+      given = (claim-kept c.args.hall.now c.args.self.now.pass c.claim.new.pass _ _ _ _ _ _ c.requires
+          c.in-Told-Job.ensures.pass (Told c.in-Told-Job.field-0) c.in-Told-Job.ensures.call).same;
+      handed = refl;
+    }) c.run_claim.result c.run_claim.ensures.says
+
+pub returns-in-Told-Over-clause-says : goal.returns-in-Told-Over-clause-says
+returns-in-Told-Over-clause-says g c = record {
+  given = (claim-kept c.args.hall.now c.args.self.now.pass c.claim.new.pass _ _ _ _ _ _ c.requires
+      c.claim.ensures.pass c.claim.result c.claim.ensures.call).same;
+  handed = refl;
+}
+
+pub returns-in-Told-Over-clause-beside : goal.returns-in-Told-Over-clause-beside
+returns-in-Told-Over-clause-beside g c =
+    (claim-kept c.args.hall.now c.args.self.now.pass c.claim.new.pass _ _ _ _ _ _ c.requires
+    c.claim.ensures.pass c.claim.result c.claim.ensures.call).on
+
+pub returns-in-Told-NoMemory-clause-says : goal.returns-in-Told-NoMemory-clause-says
+returns-in-Told-NoMemory-clause-says g c = record {
+  given = (claim-kept c.args.hall.now c.args.self.now.pass c.claim.new.pass _ _ _ _ _ _ c.requires
+      c.claim.ensures.pass c.claim.result c.claim.ensures.call).same;
+  handed = refl;
+}
+
+pub returns-in-Told-NoMemory-clause-beside : goal.returns-in-Told-NoMemory-clause-beside
+returns-in-Told-NoMemory-clause-beside g c =
+    (claim-kept c.args.hall.now c.args.self.now.pass c.claim.new.pass _ _ _ _ _ _ c.requires
+    c.claim.ensures.pass c.claim.result c.claim.ensures.call).on
+
+pub returns-in-Stopped-clause-says : goal.returns-in-Stopped-clause-says
+returns-in-Stopped-clause-says g c = record {
+  given = (claim-kept c.args.hall.now c.args.self.now.pass c.claim.new.pass _ _ _ _ _ _ c.requires
+      c.claim.ensures.pass c.claim.result c.claim.ensures.call).same;
+  handed = refl;
+}
+
+pub returns-in-Stopped-clause-beside : goal.returns-in-Stopped-clause-beside
+returns-in-Stopped-clause-beside g c =
+    (claim-kept c.args.hall.now c.args.self.now.pass c.claim.new.pass _ _ _ _ _ _ c.requires
+    c.claim.ensures.pass c.claim.result c.claim.ensures.call).on
+
+pub returns-in-Told-Idle-clause-says : goal.returns-in-Told-Idle-clause-says
+returns-in-Told-Idle-clause-says g c =
+    says-on c.args.hall.now c.args.self.now _ c.wait.new.self
+    (record {
+      given = (claim-kept c.args.hall.now c.args.self.now.pass c.claim.new.pass _ _ _ _ _ _ c.requires
+          c.claim.ensures.pass c.claim.result c.claim.ensures.call).same;
+      handed = refl;
+    }) c.wait.result c.wait.ensures.says

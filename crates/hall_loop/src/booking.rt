@@ -1,0 +1,38 @@
+//! Results that wait in the queue are booked.
+ghost use Rattle.hall_loop.specs.Beside.{GoesOn, IsBeside};
+
+use crate::hall_loop::HallLoop;
+use action_queue::MOST_WAITING;
+use hive_hall::{Book, Hall};
+use std::sync::Wait;
+
+impl HallLoop {
+    // Books one result. False is answered where none waited.
+    pub(crate) fn book_one<R: Wait>(&mut self, rt: &R, hall: &Hall) -> bool
+        requires { IsBeside hall.now self.old }
+        ensures says { GoesOn self.old self.new }
+        ensures beside { IsBeside hall.now self.new }
+    {
+        match hall.book(rt, &mut self.pass) {
+            Book::Booked => true,
+            Book::NotOutstanding(_done) => true,
+            Book::Empty => false,
+        }
+    }
+
+    // Books what waits, but no more than the queue holds at once. False is answered where nothing waited.
+    pub(crate) fn book_waiting<R: Wait>(&mut self, rt: &R, hall: &Hall) -> bool
+        requires { IsBeside hall.now self.old }
+        ensures says { GoesOn self.old self.new }
+        ensures beside { IsBeside hall.now self.new }
+    {
+        let mut some = false;
+        for _booked in 0..MOST_WAITING {
+            if !self.book_one(rt, hall) {
+                return some;
+            }
+            some = true;
+        }
+        some
+    }
+}
