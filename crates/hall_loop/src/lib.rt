@@ -24,4 +24,4 @@ pub use limits::MOST_WORKERS;
 pub use opening::{Opened, open};
 pub use settling::{Unsettled, settle};
 pub use step::{Fault, Step};
-pub use working::work;
+pub use working::{work, work_all};

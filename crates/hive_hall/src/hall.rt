@@ -1,5 +1,6 @@
 //! The shared scheduler: how it is opened, and how it is closed.
-ghost use Rattle.std.specs.Prelude.{◌≡◌, ◌≤◌, []};
+ghost use Rattle.std.specs.Prelude.{◌≡◌, ◌≤◌};
+ghost use Rattle.hive_hall.specs.declared.limits.TheConstants.{MOST_PASSES};
 ghost use Rattle.action_queue.specs.Passes.{passes_of as passes_of_queue};
 ghost use Rattle.turn_lock.specs.Turn.{all_rights};
 
@@ -8,11 +9,12 @@ use crate::board::Board;
 use crate::limits::MOST_PASSES;
 use crate::opening::{deal, give, line};
 use crate::pass::Pass;
-use action_queue::{Actions, QueuePass};
+use crate::room::Room;
+use action_queue::Actions;
 use hive_model::Many;
 use scheduler_core::Desk;
 use std::alloc::{AllocError, Global};
-use std::sync::Wait;
+use std::sync::{Mutex, Wait};
 use turn_lock::Turn;
 
 /// A scheduler core that several threads use, each by a [`Pass`](crate::Pass) of its own, and a queue for
@@ -22,11 +24,11 @@ use turn_lock::Turn;
 pub struct Hall {
     pub(crate) turn: Turn<Board>,
     pub(crate) queue: Actions,
-    // room for all passes of the queue, which ends with them
-    pub(crate) room: Many<QueuePass>,
+    // room for all passes of the queue, which ends with them; a pass of the queue is for one thread at a time, and a
+    // hall is for all threads, so what is there for passes stands behind a lock, though none is ever taken of it
+    pub(crate) room: Mutex<Room>,
     ghost rights: { all_rights turn ≡ passes_of_queue queue },
-    ghost empty: { room.items ≡ [] },
-    ghost enough: { passes_of_queue queue ≤ room.spare },
+    ghost few: { passes_of_queue queue ≤ MOST_PASSES },
 }
 
 impl Hall {
@@ -55,13 +57,13 @@ impl Hall {
         ensures numbers { IfOk result (λ r. AreNumbered r.1.items) }
         ensures desk_returned { IfErr result (λ e. e.0 ≡ desk) }
     {
-        let Ok((queue, dealt, made)) = line(alloc, &desk, passes) else {
+        let Ok((queue, dealt, made, room)) = line(alloc, &desk, passes) else {
             return Err((desk, AllocError));
         };
         let board = Board { desk, stop: None };
         board.known();
         match Turn::new(alloc, board, u32::from(passes)) {
-            Ok((turn, first)) => Ok(deal(turn, first, queue, dealt, made, passes)),
+            Ok((turn, first)) => Ok(deal(turn, first, queue, dealt, made, room, passes)),
             Err((Board { desk, stop: _ }, error)) => Err((desk, error)),
         }
     }
@@ -94,6 +96,7 @@ impl Hall {
     {
         let Hall { turn, queue, room } = self;
         let mut passes = passes;
+        let Room { passes: room } = room.into_inner();
         let mut room = room;
         let Some(first) = passes.pop() else {
             unreachable!()

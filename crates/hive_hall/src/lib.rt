@@ -16,6 +16,7 @@ mod limits;
 mod opening;
 mod pass;
 mod posting;
+mod room;
 
 pub use answers::{Ask, Book, Closed, Post};
 pub use hall::Hall;

@@ -3,15 +3,18 @@ ghost use Rattle.std.specs.Prelude.{◌≡◌, ◌+◌, ◌<◌, ◌≤◌, [], 
 ghost use Rattle.action_queue.specs.Passes.{job_of as job_of_queue};
 ghost use Rattle.scheduler_core.specs.State.{IsDesk};
 ghost use Rattle.hive_hall.specs.Closing.{AreNumbered};
+ghost use Rattle.hive_hall.specs.declared.limits.TheConstants.{MOST_PASSES};
 ghost use Rattle.hive_hall.specs.Dealing.{IsFirst, IsFresh, IsHallOf, IsLine, OpensLegally};
 
 use crate::board::Board;
 use crate::hall::Hall;
 use crate::pass::Pass;
+use crate::room::Room;
 use action_queue::{Actions, QueuePass};
 use hive_model::Many;
 use scheduler_core::Desk;
 use std::alloc::{AllocError, Global};
+use std::sync::Mutex;
 use turn_lock::{Turn, TurnPass};
 
 // What a hall needs beside its lock: the queue of results, its passes, and room for the hall's passes.
@@ -19,7 +22,7 @@ pub(crate) fn line(
     alloc: Global,
     desk: &Desk,
     passes: u8,
-) -> Result<(Actions, Many<QueuePass>, Many<Pass>), AllocError>
+) -> Result<(Actions, Many<QueuePass>, Many<Pass>, Room), AllocError>
     requires { 1 ≤ passes }
     ensures line { IfOk result (λ r. IsLine passes r.0 r.1 r.2) }
     ensures job { IfOk result (λ r. job_of_queue r.0 ≡ desk.now.job) }
@@ -28,7 +31,8 @@ pub(crate) fn line(
     let job = desk.share_job()?;
     let (queue, dealt) = Actions::new(alloc, job, passes)?;
     let made = Many::with_room(alloc, usize::from(passes))?;
-    Ok((queue, dealt, made))
+    let room = Room::new(alloc)?;
+    Ok((queue, dealt, made, room))
 }
 
 // Gives each pass a right of the lock and a pass of the queue.
@@ -38,9 +42,11 @@ pub(crate) fn deal(
     queue: Actions,
     dealt: Many<QueuePass>,
     made: Many<Pass>,
+    room: Room,
     passes: u8,
 ) -> (Hall, Many<Pass>)
     requires some { 1 ≤ passes }
+    requires few { passes ≤ MOST_PASSES }
     requires lock { IsFirst passes turn first }
     requires line { IsLine passes queue dealt made }
     requires legal { OpensLegally turn queue }
@@ -73,7 +79,7 @@ pub(crate) fn deal(
     let hall = Hall {
         turn,
         queue,
-        room: dealt,
+        room: Mutex::new(room),
     };
     (hall, made)
 }

@@ -29,22 +29,17 @@ loop-number-preserved c =
     it.pass.0 it.pass.1 it.rights it.same.0 it.same.1 c.next-queue.ensures.pass c.next-queue.ensures.spare
     c.give.ensures.items c.give.ensures.spare fresh refl
 
-last : (c : goal.After-result-1) → IsFresh c.args.turn c.args.queue
-    (record { turn = c.loop-number.first; queue = c.next.result; number = c.args.passes - 1 })
-last c =
+pub returns-clause-passes : goal.returns-clause-passes
+returns-clause-passes c =
     let inv = c.loop-number.invariant in
     let q = next-unused c.args.queue _ _ c.next.result c.next.ensures.pass inv.unused in
     let some = c.requires.some in
     let end = c.loop-number.auto.number-end in
     let right = inv.right in
-    made-fresh c.args.turn c.args.queue
+    fresh-more c.args.turn c.args.queue c.loop-number.made.items _ _ c.give-2.ensures.items inv.fresh
+    (made-fresh c.args.turn c.args.queue
     (record { turn = c.loop-number.first; queue = c.next.result; number = c.args.passes - 1 }) inv.turn inv.idle
-    (omega (arith, c.loop-number-test.false)) inv.opened inv.none q.1 c.requires.legal
-
-pub returns-clause-passes : goal.returns-clause-passes
-returns-clause-passes c =
-    fresh-more c.args.turn c.args.queue c.loop-number.made.items _ _ c.give-2.ensures.items
-    c.loop-number.invariant.fresh (last c)
+    (omega (arith, c.loop-number-test.false)) inv.opened inv.none q.1 c.requires.legal)
 
 pub returns-clause-numbers : goal.returns-clause-numbers
 returns-clause-numbers c =

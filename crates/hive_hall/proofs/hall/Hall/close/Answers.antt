@@ -1,4 +1,4 @@
-use Rattle.std.proofs.Common.{Some}
+use Rattle.std.proofs.Common.{Some, arith}
 use Rattle.std.proofs.lemmas.List.Elements.{All-pop}
 use Rattle.action_queue.specs.Passes.{left_of}
 use Rattle.turn_lock.specs.Pass.{IsIdle}
@@ -9,9 +9,9 @@ use Rattle.hive_hall.proofs.hall.Hall.close.Goals as goal
 
 pub loop-pass-init : goal.loop-pass-init
 loop-pass-init c =
-    gathers-first c.args.self c.args.passes.items c.pop.new.self.items c.in-Some.first c.args.self.room
-    c.give.new.list c.in-Some.ensures.some c.requires.all.1 c.args.self.empty c.give.ensures.items
-    c.give.ensures.spare c.args.self.enough
+    gathers-first c.args.self c.args.passes.items c.pop.new.self.items c.in-Some.first c.into_inner-room.result.passes
+    c.give.new.list c.in-Some.ensures.some c.requires.all.1 c.into_inner-room.result.empty c.give.ensures.items
+    c.give.ensures.spare (omega (arith, c.args.self.few, c.into_inner-room.result.enough))
 
 pub join-requires-clause-other : goal.join-requires-clause-other
 join-requires-clause-other c =
