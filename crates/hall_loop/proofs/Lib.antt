@@ -9,5 +9,6 @@ pub mod Retirements
 pub mod Closing
 pub mod Openings
 pub mod Recalls
+pub mod LeftResults
 pub mod Settlements
 pub mod Turns

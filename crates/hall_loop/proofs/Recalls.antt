@@ -1,44 +1,75 @@
--- Results that are left are booked, and claims that are outstanding are put back one by one.
-use Rattle.std.proofs.Common.{◌≡◌, ℕ, ◌+◌, ◌<◌, true, List, [], ◌∷◌, ◌++◌, append-nil, append_assoc, Some, refl, sym, ap, ◌∙◌, subst, arith}
-use Rattle.std.proofs.lemmas.List.Elements.{All-append, All-cons, All-head, All-nil, All-rest, All-same}
+-- Entries of one kind are entered one by one, and claims that are outstanding are put back.
+use Rattle.std.proofs.Common.{◌≡◌, ℕ, ◌+◌, ◌<◌, Bool, true, List, [], ◌∷◌, ◌++◌, append-nil, append_assoc, Some, refl, sym, ap, ◌∙◌, arith}
+use Rattle.std.proofs.lemmas.Bool.{true≢false}
+use Rattle.std.proofs.lemmas.List.Elements.{All-append, All-cons, All-nil, All-weaker}
 use Rattle.std.specs.Option.{option_map_or}
-use Rattle.std.specs.Prelude.{All}
 use Rattle.event_loop.proofs.Effects.{back-effect}
 use Rattle.event_loop.proofs.Entries.{back-step}
 use Rattle.event_loop.proofs.Ran.{entered}
 use Rattle.event_slots.specs.Slots.{claims_out}
-use Rattle.expr_code.specs.Claim.{Done, IsOfJob}
-use Rattle.hall_loop.specs.Settled.{EntersWork}
+use Rattle.hall_loop.specs.Settled.{Enters}
 use Rattle.hive_model.specs.History.{DeskState}
-use Rattle.hive_model.specs.Job.{Job}
 use Rattle.hive_model.specs.Machine.{Machine}
 use Rattle.hive_model.specs.Replay.{replay}
 use Rattle.hive_model.specs.declared.entry.Entry.{Entry}
 use Rattle.hive_model.specs.declared.entry.Entry.TheVariants as entry
-use Rattle.hive_workers.specs.Items.{is_work}
+use Rattle.hive_workers.specs.Items.{is_back, is_done, is_work}
 use Rattle.scheduler_core.proofs.Claims.{taken}
 use Rattle.scheduler_core.specs.Says.{IsLeastOut, IsRecalled, with_entry}
 use Rattle.scheduler_core.specs.State.{IsDesk}
 
-abbrev IsWork : Entry → Type 0
-IsWork e = is_work e ≡ true
+abbrev IsKind : (Entry → Bool) → Entry → Type 0
+IsKind kind e = kind e ≡ true
 
 -- none at all
-pub enters-none : (d : DeskState) → EntersWork d d
-enters-none d = record {
+pub enters-none : (kind : Entry → Bool) (d : DeskState) → Enters kind d d
+enters-none kind d = record {
   entries = [];
-  work = All-nil IsWork;
+  only = All-nil (IsKind kind);
   appended = ap (λ (l : List Entry). record d { journal = l }) (sym (append-nil d.journal));
 }
 
--- one entry of work more
-pub enters-one : (first d after : DeskState) (e : Entry) → EntersWork first d → after ≡ with_entry d e →
-    is_work e ≡ true → EntersWork first after
-enters-one first d after e so_far appended work = record {
+-- one entry more
+pub enters-one : (kind : Entry → Bool) (first d after : DeskState) (e : Entry) → Enters kind first d →
+    after ≡ with_entry d e → kind e ≡ true → Enters kind first after
+enters-one kind first d after e so_far appended one = record {
   entries = so_far.entries ++ e ∷ [];
-  work = All-append IsWork so_far.entries (e ∷ []) so_far.work (All-cons IsWork e [] work (All-nil IsWork));
+  only = All-append (IsKind kind) so_far.entries (e ∷ []) so_far.only
+      (All-cons (IsKind kind) e [] one (All-nil (IsKind kind)));
   appended = appended ∙ (ap (λ (x : DeskState). with_entry x e) so_far.appended
       ∙ ap (λ (l : List Entry). record first { journal = l }) (append_assoc first.journal so_far.entries (e ∷ [])));
+}
+
+-- results, and claims that are put back, are work
+
+done-works : (e : Entry) → is_done e ≡ true → is_work e ≡ true
+done-works (entry.Admit slot place) h = absurd (true≢false (sym h))
+done-works (entry.Claim slot number clone worker) h = refl
+done-works (entry.Done ticket outcome) h = refl
+done-works (entry.Back ticket) h = refl
+done-works (entry.Retire slot) h = absurd (true≢false (sym h))
+done-works entry.Last h = absurd (true≢false (sym h))
+
+back-works : (e : Entry) → is_back e ≡ true → is_work e ≡ true
+back-works (entry.Admit slot place) h = absurd (true≢false (sym h))
+back-works (entry.Claim slot number clone worker) h = refl
+back-works (entry.Done ticket outcome) h = refl
+back-works (entry.Back ticket) h = refl
+back-works (entry.Retire slot) h = absurd (true≢false (sym h))
+back-works entry.Last h = absurd (true≢false (sym h))
+
+pub works-done : (d after : DeskState) → Enters is_done d after → Enters is_work d after
+works-done d after it = record {
+  entries = it.entries;
+  only = All-weaker (IsKind is_done) (IsKind is_work) done-works it.entries it.only;
+  appended = it.appended;
+}
+
+pub works-back : (d after : DeskState) → Enters is_back d after → Enters is_work d after
+works-back d after it = record {
+  entries = it.entries;
+  only = All-weaker (IsKind is_back) (IsKind is_work) back-works it.entries it.only;
+  appended = it.appended;
 }
 
 -- how many claims are outstanding
@@ -57,37 +88,3 @@ recalled-less d after it desk =
     let b = back-effect t.value e.next
     (back-step d.job d.admitted d.journal t.value e.next it.ticket e.steps) in
     omega (arith, b.claims, out-is d t.value t.was, out-is after e.next e.led)
-
--- while the results that are left are booked
-pub record IsBooking (first d : DeskState) (left : List Done) : Type 0 where
-  pub entered : EntersWork first d
-  pub desk : IsDesk d
-  pub of_job : All (λ (v : Done). IsOfJob first.job v.claim) left
-
-pub booking-job : (first d : DeskState) (v : Done) (left rest : List Done) → IsBooking first d left →
-    left ≡ v ∷ rest → IsOfJob d.job v.claim
-booking-job first d v left rest it next =
-    let P = λ (x : Done). IsOfJob first.job x.claim in
-    subst (λ (j : Job). IsOfJob j v.claim) (sym (ap (λ (x : DeskState). x.job) it.entered.appended))
-    (All-head P v rest (All-same P (v ∷ rest) left (sym next) it.of_job))
-
-pub books-one : (first d after : DeskState) (v : Done) (left rest : List Done) → IsBooking first d left →
-    left ≡ v ∷ rest → after ≡ with_entry d (entry.Done v.claim.ticket v.left.outcome) → IsDesk after →
-    IsBooking first after rest
-books-one first d after v left rest it next appended desk =
-    let P = λ (x : Done). IsOfJob first.job x.claim in
-    record {
-      entered = enters-one first d after (entry.Done v.claim.ticket v.left.outcome) it.entered appended refl;
-      desk = desk;
-      of_job = All-rest P v rest left next it.of_job;
-    }
-
-pub drops-one : (first d after : DeskState) (v : Done) (left rest : List Done) → IsBooking first d left →
-    left ≡ v ∷ rest → after ≡ d → IsDesk after → IsBooking first after rest
-drops-one first d after v left rest it next same desk =
-    let P = λ (x : Done). IsOfJob first.job x.claim in
-    record {
-      entered = subst (EntersWork first) (sym same) it.entered;
-      desk = desk;
-      of_job = All-rest P v rest left next it.of_job;
-    }

@@ -7,15 +7,17 @@ use Rattle.event_loop.specs.Loop.{LoopState, results_of}
 use Rattle.event_loop.specs.Running.{IsGoing, IsRunning, IsTallied}
 use Rattle.event_loop.specs.Waiting.{Waits}
 use Rattle.event_slots.specs.Slots.{claims_out}
+use Rattle.expr_code.specs.Claim.{Done}
 use Rattle.hall_loop.proofs.Given.{still-first}
 use Rattle.hall_loop.proofs.Others.{closed-others}
+use Rattle.hall_loop.proofs.Recalls.{works-back, works-done}
 use Rattle.hall_loop.proofs.Telling.{told-on}
 use Rattle.hall_loop.proofs.Works.{works-enter, works-tell}
 use Rattle.hall_loop.specs.Beside.{IsBeside, IsToldBy, Keeps, first_of, given_of}
 use Rattle.hall_loop.specs.Others.{HasOnlyWorked, OthersWork}
-use Rattle.hall_loop.specs.Settled.{AreWorkersOf, EntersWork, IsSettled, IsUnsettled}
+use Rattle.hall_loop.specs.Settled.{AreWorkersOf, BooksAll, BooksLeft, Enters, IsSettled, IsUnsettled}
 use Rattle.hall_loop.specs.declared.hall_loop.HallLoop.{HallLoop}
-use Rattle.hive_hall.specs.Closing.{AreAllOf, IsLast}
+use Rattle.hive_hall.specs.Closing.{AreAllOf, IsConserved, IsLast}
 use Rattle.hive_hall.specs.Legal.{IsHistoryOf}
 use Rattle.hive_hall.specs.Pass.{IsPassOf, job_of, seen, slots_of}
 use Rattle.hive_hall.specs.declared.hall.Hall.{Hall}
@@ -28,6 +30,7 @@ use Rattle.hive_model.specs.Many.{Many}
 use Rattle.hive_model.specs.Replay.{IsWholeRun, replay}
 use Rattle.hive_model.specs.declared.entry.Entry.{Entry}
 use Rattle.hive_model.specs.declared.item.Item.{Item}
+use Rattle.hive_workers.specs.Items.{is_back, is_work}
 use Rattle.report_text.specs.Tallied.{CountsAll}
 use Rattle.report_text.specs.declared.counts.Counts.{Counts}
 use Rattle.scheduler_core.proofs.Claims.{told}
@@ -78,7 +81,7 @@ closes hall workers p waiting counts slots admitted handed closed d k worked all
     }
 
 pub closed-on : (hall : Hall) (p : Pass) (waiting : Waits) (counts : Counts) (admitted handed : ℕ) (closed : Bool)
-    (d after : DeskState) → IsClosed hall p waiting counts admitted handed closed d → EntersWork d after →
+    (d after : DeskState) → IsClosed hall p waiting counts admitted handed closed d → Enters is_work d after →
     IsDesk after → IsClosed hall p waiting counts admitted handed closed after
 closed-on hall p waiting counts admitted handed closed d after c e desk = record {
   others = c.others;
@@ -86,7 +89,7 @@ closed-on hall p waiting counts admitted handed closed d after c e desk = record
   slots_are = ap (λ (x : DeskState). x.slots) e.appended ∙ c.slots_are;
   records = ap (λ (x : DeskState). x.admitted) e.appended ∙ c.records;
   told_is = told-on waiting counts admitted handed closed d after c.told_is
-      (works-enter d after e.entries c.told_is.tally.machine e.appended e.work desk c.told_is.tally.led) desk;
+      (works-enter d after e.entries c.told_is.tally.machine e.appended e.only desk c.told_is.tally.led) desk;
   desk = desk;
 }
 
@@ -134,16 +137,16 @@ all-of hall workers p them own = (
 
 module _ (hall : Hall) (workers : Many Pass) (it : HallLoop) (d booked last : DeskState) (beside : IsBeside hall it)
     (them : AreWorkersOf hall workers) (closed : IsLast hall (workers.items ++ it.pass ∷ []) d)
-    (first : EntersWork d booked) (first_desk : IsDesk booked) (second : EntersWork booked last)
-    (second_desk : IsDesk last) where
+    (left : List Done) (first : BooksAll d left booked) (first_desk : IsDesk booked)
+    (second : Enters is_back booked last) (second_desk : IsDesk last) where
   pub settles : IsClosed hall it.pass it.waiting it.counts it.admitted it.handed it.closed last
   settles =
       closed-on hall it.pass it.waiting it.counts it.admitted it.handed it.closed booked last
       (closed-on hall it.pass it.waiting it.counts it.admitted it.handed it.closed d booked
       (closes hall workers.items it.pass it.waiting it.counts it.slots it.admitted it.handed it.closed d beside
       them.worked (all-of hall workers it.pass them beside.pass) closed)
-      first first_desk)
-      second second_desk
+      (works-done d booked first.results) first_desk)
+      (works-back booked last second) second_desk
 
   pub settled : (now : LoopState) →
       now ≡ record { desk = last; handed = it.handed; counts = it.counts } → IsSettled hall it now
@@ -159,3 +162,17 @@ module _ (hall : Hall) (workers : Many Pass) (it : HallLoop) (d booked last : De
       let left = leaves last (job_of hall) (slots_of hall) (given_of it) journal it.waiting it.handed it.counts
       settles.told_is.tally settles.job_is settles.slots_are settles.records is in
       record { run = left.run; counted = left.counted }
+
+  pub leaves-none : IsConserved hall (workers.items ++ it.pass ∷ []) left → (journal : List Entry) →
+      journal ≡ last.journal → BooksLeft hall (workers.items ++ it.pass ∷ []) journal
+  leaves-none conserved journal is = record {
+    closed = d;
+    last = closed;
+    left = left;
+    conserved = conserved;
+    booked = booked;
+    books = first;
+    recalled = second.entries;
+    backs = second.only;
+    journal_is = is ∙ ap (λ (x : DeskState). x.journal) second.appended;
+  }

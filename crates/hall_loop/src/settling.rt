@@ -5,9 +5,9 @@ ghost use Rattle.event_loop.specs.Loop.{IsLoop};
 ghost use Rattle.expr_code.specs.Claim.{IsOfJob};
 ghost use Rattle.hall_loop.specs.Beside.{IsBeside};
 ghost use Rattle.hall_loop.specs.Others.{OthersWork};
-ghost use Rattle.hall_loop.specs.Settled.{AreWorkersOf, EntersWork, IsSettled, IsUnsettled, RecallsAll};
-ghost use Rattle.hive_hall.specs.Closing.{IsLast};
-ghost use Rattle.hive_hall.specs.Pass.{IsPassOf, job_of};
+ghost use Rattle.hall_loop.specs.Settled.{AreWorkersOf, BooksAll, BooksLeft, IsSettled, IsUnsettled, RecallsAll};
+ghost use Rattle.hive_hall.specs.Closing.{IsConserved, IsLast};
+ghost use Rattle.hive_hall.specs.Pass.{IsPassOf};
 ghost use Rattle.scheduler_core.specs.State.{IsDesk};
 
 use crate::hall_loop::HallLoop;
@@ -41,6 +41,8 @@ pub fn settle<R: Wait>(
     ensures settled { IfOk result (λ it. IsSettled hall events it) }
     ensures is_loop { IfOk result IsLoop }
     ensures unsettled { IfErr result (λ it. IsUnsettled hall events it.counts it.journal.items) }
+    ensures left { IfOk result (λ it. BooksLeft hall (workers.items ++ events.pass ∷ []) it.desk.journal) }
+    ensures left_too { IfErr result (λ it. BooksLeft hall (workers.items ++ events.pass ∷ []) it.journal.items) }
     ensures others { OthersWork hall events.pass }
 {
     let HallLoop {
@@ -69,7 +71,7 @@ fn close(hall: Hall, workers: Many<Pass>, pass: Pass) -> Closed
     requires workers { AreWorkersOf hall workers }
     requires pass { IsPassOf hall pass }
     ensures history { IsLast hall (workers.items ++ pass ∷ []) result.desk }
-    ensures left { All (λ d. IsOfJob (job_of hall) d.claim) (left_of result.left) }
+    ensures left { IsConserved hall (workers.items ++ pass ∷ []) (left_of result.left) }
 {
     let mut passes = workers;
     let Ok(()) = passes.push(pass) else {
@@ -78,11 +80,11 @@ fn close(hall: Hall, workers: Many<Pass>, pass: Pass) -> Closed
     hall.close(passes)
 }
 
-// Books the results that are left.
+// Books the results that are left, but for those of claims that aren't outstanding.
 fn book_left<R: Wait>(rt: &R, desk: &mut Desk, left: &mut Left)
     requires desk { IsDesk desk.old }
     requires of_job { All (λ d. IsOfJob desk.old.job d.claim) (left_of left.old) }
-    ensures booked { EntersWork desk.old desk.new }
+    ensures booked { BooksAll desk.old (left_of left.old) desk.new }
     ensures desk { IsDesk desk.new }
 {
     while let Some(done) = left.take(rt) {
