@@ -2,9 +2,14 @@
 #![tactic(auto)]
 
 use hive_real::{RealFiles, RealIn, RealOut};
-use hive_top::{Status, hive_plain};
+use hive_top::{Status, hive, hive_plain};
+use hive_workers::NoGate;
 use std::alloc::AllocError;
+use std::io::Write;
 use std::process::ExitCode;
+use std::rt::Runtime;
+use std::sync::Wait;
+use std::thread::Threads;
 use std::{env, io};
 
 fn main(rt: HostRuntime) -> ExitCode {
@@ -12,7 +17,8 @@ fn main(rt: HostRuntime) -> ExitCode {
         Ok(words) => words,
         Err(_) => return ExitCode::from(Status::NoMemory.code()),
     };
-    match run(&rt, words.as_slice()) {
+    let mut trace = RealOut::new(rt.stderr());
+    match run(&rt, words.as_slice(), &mut trace) {
         Ok(status) => ExitCode::from(status.code()),
         Err(_) => ExitCode::from(Status::NoMemory.code()),
     }
@@ -36,7 +42,11 @@ fn words_of(rt: &HostRuntime) -> Result<Vec<String>, AllocError> {
     }
 }
 
-fn run(rt: &HostRuntime, words: &[String]) -> Result<Status, AllocError> {
+fn run<R: Runtime + AllocGlobal + Threads + Wait + Sync, W: Write + Drop>(
+    rt: &R,
+    words: &[String],
+    trace: &mut RealOut<W>,
+) -> Result<Status, AllocError> {
     let mut texts = Vec::with_capacity(rt.alloc(), words.len())?;
     for word in words {
         texts.push(word.as_str())?;
@@ -44,14 +54,35 @@ fn run(rt: &HostRuntime, words: &[String]) -> Result<Status, AllocError> {
     let mut files = RealFiles::new(rt);
     let mut input = RealIn::new(rt.reader());
     let mut output = RealOut::new(io::writer(rt));
-    let mut trace = RealOut::new(rt.stderr());
-    let ran = hive_plain(
-        rt.alloc(),
-        texts.as_slice(),
-        &mut files,
-        &mut input,
-        &mut output,
-        &mut trace,
-    );
+    let words = texts.as_slice();
+    let ran = if may_have_workers(words) {
+        hive(
+            rt,
+            rt.alloc(),
+            words,
+            &mut files,
+            &mut input,
+            &mut output,
+            trace,
+            &NoGate,
+        )
+    } else {
+        hive_plain(
+            rt.alloc(),
+            words,
+            &mut files,
+            &mut input,
+            &mut output,
+            trace,
+        )
+    };
     Ok(ran.status)
+}
+
+// Whether the words can ask for workers. All others are carried out without a thread.
+fn may_have_workers(words: &[&str]) -> bool {
+    match words.split_first() {
+        Some((word, _)) => *word == "run" || *word == "bulk",
+        None => false,
+    }
 }

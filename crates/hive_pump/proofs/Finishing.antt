@@ -8,9 +8,11 @@ use Rattle.hive_model.specs.EventRecord.{EventRecord}
 use Rattle.hive_model.specs.Job.{Job}
 use Rattle.report_text.specs.Tallied.{CountsAll}
 use Rattle.report_text.specs.declared.counts.Counts.{Counts}
-use Rattle.hive_pump.proofs.Draining.{closes-final, final-both, prefix-after, prefix-more, prefix-of, sent-both, stays-final}
+use Rattle.hive_pump.proofs.Courses.{broken-after, course-is, prefix-more, prefix-of, sent-both}
+use Rattle.hive_pump.proofs.Draining.{closes-final, final-both, stays-final}
 use Rattle.hive_pump.proofs.Texts.{line-end}
-use Rattle.hive_pump.specs.Going.{BrokenBy, DrainSays, FinishSays, IsFinal, LeftBy, RunsOut, line_for, reports_from, rest_of}
+use Rattle.hive_pump.specs.Course.{reports_left}
+use Rattle.hive_pump.specs.Going.{BrokenBy, DrainSays, FinishSays, IsFinal, LeftBy, RunsOut, course_of, line_for, rest_of}
 use Rattle.hive_pump.specs.Steps.{HasLine, IsBroken, IsSent, PutsLast, line_at}
 use Rattle.hive_pump.specs.Written.{AppendsPrefix, results}
 use Rattle.hive_pump.specs.declared.ending.Ending.{Ending}
@@ -36,12 +38,11 @@ counted-all job given it same records none over =
 module _ {K : Type 0} (got : K → Option (List ℕ)) (faults : K → ℕ) (admits : K → List ℕ → Type 0) (job : Job) (brief : Bool)
     (none : HasNoCut job) (old closed : LoopState) (same : old.desk.job ≡ job) (closes : Closes old closed) (k₀ : K) where
   -- the reports that were still to come, from where the loop was closed
-  due : reports_from job brief closed.handed closed.desk.admitted ≡ reports_from job brief old.handed old.desk.admitted
-  due = ap (λ n. reports_from job brief n closed.desk.admitted) closes.handed
-      ∙ ap (λ l. reports_from job brief old.handed l) closes.records
+  due : reports_left job brief (course_of closed) ≡ reports_left job brief (course_of old)
+  due = ap (reports_left job brief) (course-is (course_of closed) (course_of old) closes.records closes.handed)
 
-  broken-by : (ended : Ending) (k k' : K) → HasLine ended → IsBroken got faults k k' (rest_of job brief ended old) →
-      BrokenBy got faults job brief old k k' ended
+  broken-by : (ended : Ending) (k k' : K) → HasLine ended → IsBroken got faults k k' (rest_of job brief ended (course_of old)) →
+      BrokenBy got faults job brief (course_of old) k k' ended
   broken-by ending.All k k' h p = p
   broken-by (ending.Refused refusal) k k' h p = p
   broken-by ending.Source k k' h p = p
@@ -49,8 +50,8 @@ module _ {K : Type 0} (got : K → Option (List ℕ)) (faults : K → ℕ) (admi
   broken-by ending.NoMemory k k' h p = absurd h
 
   left-by : (ended : Ending) (k k' : K) → HasLine ended →
-      AppendsPrefix (got k) (got k') (rest_of job brief ended old) →
-      ((faults k' ≡ faults k) ⊎ Rose (faults k) (faults k')) → LeftBy got faults job brief old k k' ended
+      AppendsPrefix (got k) (got k') (rest_of job brief ended (course_of old)) →
+      ((faults k' ≡ faults k) ⊎ Rose (faults k) (faults k')) → LeftBy got faults job brief (course_of old) k k' ended
   left-by ending.All k k' h p f = (p, f)
   left-by (ending.Refused refusal) k k' h p f = (p, f)
   left-by ending.Source k k' h p f = (p, f)
@@ -68,7 +69,7 @@ module _ {K : Type 0} (got : K → Option (List ℕ)) (faults : K → ℕ) (admi
         final : IsFinal old new
         final = final-both old closed new (closes-final old closed closes) (stays-final closed new stays)
 
-        written_out : IsSent got faults admits k₀ k (reports_from job brief old.handed old.desk.admitted)
+        written_out : IsSent got faults admits k₀ k (reports_left job brief (course_of old))
         written_out = subst (IsSent got faults admits k₀ k) due sent
 
         line : line_at ended counts ≡ line_for job old.desk.admitted ended
@@ -76,22 +77,19 @@ module _ {K : Type 0} (got : K → Option (List ℕ)) (faults : K → ℕ) (admi
             (subst (CountsAll (results job old.desk.admitted)) (sym told)
             (counted-all job old.desk.admitted new (final.job_is ∙ same) final.records none over))
 
-        whole : rest_of job brief ended old
-            ≡ reports_from job brief old.handed old.desk.admitted ++ line_at ended counts
-        whole = ap (λ t. reports_from job brief old.handed old.desk.admitted ++ t) (sym line)
+        whole : rest_of job brief ended (course_of old)
+            ≡ reports_left job brief (course_of old) ++ line_at ended counts
+        whole = ap (λ t. reports_left job brief (course_of old) ++ t) (sym line)
 
         sent_all : IsSent got faults admits k k' (line_at ended counts) →
-            IsSent got faults admits k₀ k' (rest_of job brief ended old)
-        sent_all p = sent-both got faults admits k₀ k k' (reports_from job brief old.handed old.desk.admitted)
-            (line_at ended counts) (rest_of job brief ended old) written_out p whole
+            IsSent got faults admits k₀ k' (rest_of job brief ended (course_of old))
+        sent_all p = sent-both got faults admits k₀ k k' (reports_left job brief (course_of old))
+            (line_at ended counts) (rest_of job brief ended (course_of old)) written_out p whole
 
         broken : IsBroken got faults k k' (line_at ended counts) →
-            IsBroken got faults k₀ k' (rest_of job brief ended old)
-        broken p = record {
-          bytes = prefix-after (got k₀) (got k) (got k') (reports_from job brief old.handed old.desk.admitted)
-              (line_at ended counts) (rest_of job brief ended old) written_out.bytes p.bytes whole;
-          rose = rw (← written_out.calm) p.rose;
-        }
+            IsBroken got faults k₀ k' (rest_of job brief ended (course_of old))
+        broken p = broken-after got faults admits k₀ k k' (reports_left job brief (course_of old)) (line_at ended counts)
+            (rest_of job brief ended (course_of old)) written_out p whole
 
         by : (r : Ending) → PutsLast got faults admits ended counts k k' r →
             FinishSays got faults admits job brief ended old new k₀ k' r
@@ -99,9 +97,9 @@ module _ {K : Type 0} (got : K → Option (List ℕ)) (faults : K → ℕ) (admi
         by ending.NoMemory p = (
           final,
           left-by ended k₀ k' has
-              (subst (λ x. AppendsPrefix (got k₀) (got x) (rest_of job brief ended old)) (sym p)
-              (prefix-of (got k₀) (got k) (reports_from job brief old.handed old.desk.admitted)
-              (line_at ended counts) (rest_of job brief ended old) written_out.bytes whole))
+              (subst (λ x. AppendsPrefix (got k₀) (got x) (rest_of job brief ended (course_of old))) (sym p)
+              (prefix-of (got k₀) (got k) (reports_left job brief (course_of old))
+              (line_at ended counts) (rest_of job brief ended (course_of old)) written_out.bytes whole))
               (inl (ap faults p ∙ written_out.calm)),
         )
         by ending.All p = (p.0, final, over, sent_all p.1)
@@ -118,9 +116,9 @@ module _ {K : Type 0} (got : K → Option (List ℕ)) (faults : K → ℕ) (admi
         final f = final-both old mid new
             (final-both old closed mid (closes-final old closed closes) (stays-final closed mid stays)) f
 
-        prefix : AppendsPrefix (got k₀) (got k) (rest_of job brief ended old)
-        prefix = prefix-more (got k₀) (got k) (reports_from job brief old.handed old.desk.admitted)
-            (line_for job old.desk.admitted ended) (rest_of job brief ended old)
+        prefix : AppendsPrefix (got k₀) (got k) (rest_of job brief ended (course_of old))
+        prefix = prefix-more (got k₀) (got k) (reports_left job brief (course_of old))
+            (line_for job old.desk.admitted ended) (rest_of job brief ended (course_of old))
             (subst (AppendsPrefix (got k₀) (got k)) due broken.bytes) refl
 
         by : (r : Ending) → RunsOut mid new r → FinishSays got faults admits job brief ended old new k₀ k r
@@ -136,8 +134,8 @@ module _ {K : Type 0} (got : K → Option (List ℕ)) (faults : K → ℕ) (admi
     out-of-memory has (stays, prefix, calm) = (
       final-both old closed new (closes-final old closed closes) (stays-final closed new stays),
       left-by ended k₀ k has
-          (prefix-more (got k₀) (got k) (reports_from job brief old.handed old.desk.admitted)
-          (line_for job old.desk.admitted ended) (rest_of job brief ended old)
+          (prefix-more (got k₀) (got k) (reports_left job brief (course_of old))
+          (line_for job old.desk.admitted ended) (rest_of job brief ended (course_of old))
           (subst (AppendsPrefix (got k₀) (got k)) due prefix) refl) (inl calm),
     )
 

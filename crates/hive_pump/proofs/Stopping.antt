@@ -1,25 +1,26 @@
 -- How reading stops: what was read of the input by then, and what was written.
-use Rattle.std.proofs.Common.{◌≡◌, ℕ, ◌+◌, Bool, true, false, List, [], ◌++◌, Option, Some, None, OnErr, OnOk, Result, Ok, Err, is_err, slice_get, take, refl, sym, ap, subst, ◌∙◌, append_assoc, append-nil}
+use Rattle.std.proofs.Common.{◌≡◌, ◌⊎◌, inl, ℕ, ◌+◌, Bool, true, false, List, [], ◌∷◌, ◌++◌, Option, Some, None, OnErr, OnOk, Result, Ok, Err, is_err, refl, sym, ap, subst, ◌∙◌, append_assoc, append-nil}
 use Rattle.std.proofs.KnownBytes.{Consumes-kept, Consumes-nil, Consumes-trans}
 use Rattle.std.proofs.lemmas.Option.{same_Some}
 use Rattle.std.specs.Io.KnownBytes.{Consumes, IsAtEnd}
-use Rattle.event_loop.specs.Loop.{IsLoop, LoopState}
 use Rattle.event_records.specs.Reading.{HasRead, IsRefused, Reading, ahead, just, told}
+use Rattle.hive_edge.specs.Fault.{Rose}
 use Rattle.hive_model.specs.EventRecord.{EventRecord}
 use Rattle.hive_model.specs.Job.{Job}
 use Rattle.text_model.specs.Records.{Known, records_of, so_far}
 use Rattle.text_model.specs.Whole.{Ending as Last, ReadToEnd, RefusedAt, SourceFailed}
 use Rattle.text_model.specs.declared.record_refusal.RecordRefusal.{RecordRefusal}
-use Rattle.hive_pump.proofs.Draining.{prefix-after, prefix-more, prefix-of}
-use Rattle.hive_pump.proofs.Going.{over-stays}
-use Rattle.hive_pump.proofs.Shown.{unmoved}
-use Rattle.hive_pump.proofs.Texts.{may-end, no-more, reports-next, written-parts}
-use Rattle.hive_pump.specs.Going.{HasStopped, IsShown, IsUnderWay, Stays, reports_from}
+use Rattle.hive_pump.proofs.Courses.{broken-shown, given-shown, prefix-so-far}
+use Rattle.hive_pump.proofs.Texts.{may-end, no-more}
+use Rattle.hive_pump.specs.Course.{Course, HasStopped, IsShown, IsUnderWay, WrittenBy, text_so_far}
+use Rattle.hive_pump.specs.Input.{EndsInput, FeedsOn, HasEnded, IsInput}
+use Rattle.hive_pump.specs.Pumped.{EndsBy}
 use Rattle.hive_pump.specs.Reading.{IsRead}
-use Rattle.hive_pump.specs.Steps.{FeedsOn, IsBroken, report_on}
-use Rattle.hive_pump.specs.Written.{AppendsPrefix, MayWrite, written}
+use Rattle.hive_pump.specs.Steps.{IsBroken, IsSent}
+use Rattle.hive_pump.specs.Written.{MayWrite, written}
 use Rattle.hive_pump.specs.declared.ending.Ending.{Ending}
 use Rattle.hive_pump.specs.declared.ending.Ending.TheVariants as ending
+use Rattle.hive_pump.specs.declared.input.Input.{Input}
 
 -- the first records of what was read, while the input goes on
 pub read-on : (job : Job) (before now : Option (List ℕ)) (fed : List ℕ) (given : List EventRecord) (r : Reading) →
@@ -63,6 +64,18 @@ read-lost job before mid now fed piece given r has open_ taken more_taken = reco
       ((ahead r (piece ++ more) over).records, whole ∙ known);
 }
 
+-- without the last one
+read-fewer : (job : Job) (before now : Option (List ℕ)) (given : List EventRecord) (it : EventRecord) →
+    IsRead job before now (given ++ it ∷ []) None → IsRead job before now given None
+read-fewer job before now given it r = record {
+  text = r.text;
+  ended = r.ended;
+  taken = r.taken;
+  at_end = r.at_end;
+  says = λ more over future.
+      let begins = r.says more over future in (it ∷ begins.0, begins.1 ∙ append_assoc given (it ∷ []) begins.0);
+}
+
 pub went-wrong : {X E : Type 0} (r : Result X E) (P : Type 0) → OnErr r P → is_err r ≡ true → P
 went-wrong (Ok x) P h e = absurd (cc)
 went-wrong (Err x) P h e = h
@@ -71,156 +84,153 @@ pub went-well : {X E : Type 0} (r : Result X E) (P : Type 0) → OnOk r P → is
 went-well (Ok x) P h e = h
 went-well (Err x) P h e = absurd (cc)
 
-pub same-stays : (old new : LoopState) → new ≡ old → Stays old new
-same-stays old new e = unmoved old new (ap (λ (l : LoopState). l.desk) e)
+may-as : (job : Job) (brief : Bool) (before : Option (List ℕ)) (given : List EventRecord) (line last : Last) →
+    Some last ≡ Some line → MayWrite job brief before (written job brief given (Some last)) →
+    MayWrite job brief before (written job brief given (Some line))
+may-as job brief before given line last e may =
+    subst (λ l. MayWrite job brief before (written job brief given (Some l))) (same_Some last line e) may
+
+module _ {S : Type 0} (rest : S → Option (List ℕ)) (faults : S → ℕ) (job : Job) (s₀ s : S) (given : List EventRecord)
+    (old : Input) (u : IsInput rest faults job s₀ s given old) where
+  abbrev pub Ends : S → Ending → Type 0
+  Ends s' ended = HasEnded rest faults job s₀ s' given ended
+
+  -- reading stopped, and the input may go on
+  off : (s' : S) (ended : Ending) → IsRead job (rest s₀) (rest s') given None → faults s' ≡ faults s₀ → EndsBy ended None →
+      Ends s' ended
+  off s' ended read calm ends =
+      record { last = None; read = read; ends = ends; count = calm; may = λ brief line e. absurd (cc) }
+
+  -- for another cause than the input's
+  pub leaves-off : (ended : Ending) → EndsBy ended None → Ends s ended
+  leaves-off ended ends =
+      off s ended (read-on job (rest s₀) (rest s) u.fed given old.reader u.reads u.bytes u.at_end) u.calm ends
+
+  -- the source failed, or memory ran out
+  pub ends-reading : (s' : S) (asked now : Reading) (taken taken' : ℕ) (ended : Ending) →
+      HasRead job u.fed given asked → asked.ended ≡ false → so_far job u.fed ≡ just given None →
+      FeedsOn rest faults s s' asked now taken taken' (Err ended) →
+      EndsInput rest faults job s₀ s' given ended
+  ends-reading s' asked now taken taken' ending.Source has open_ known (keeps, rose) = record {
+    last = Some SourceFailed;
+    read = record {
+      text = u.fed;
+      ended = false;
+      taken = Consumes-kept (rest s₀) (rest s) (rest s') u.fed u.bytes keeps;
+      at_end = λ e. cc;
+      says = (refl, known);
+    };
+    ends = refl;
+    count = rw (← u.calm) rose;
+    may = λ brief line e.
+        may-as job brief (rest s₀) given line SourceFailed e
+        (may-end job brief false (rest s₀) (rest s) u.fed given None u.bytes (λ x. cc) known);
+  }
+  ends-reading s' asked now taken taken' ending.NoMemory has open_ known lost =
+      off s' ending.NoMemory
+      (read-lost job (rest s₀) (rest s) (rest s') u.fed lost.piece given asked has open_ u.bytes lost.bytes)
+      (lost.calm ∙ u.calm) tt
+  ends-reading s' asked now taken taken' ending.All has open_ known fed = absurd fed
+  ends-reading s' asked now taken taken' ending.Sink has open_ known fed = absurd fed
+  ends-reading s' asked now taken taken' (ending.Refused refusal) has open_ known fed = absurd fed
+
+  -- the input was read to its end
+  pub ends-read : old.reader.ended ≡ true → records_of job u.fed ≡ just given None → Ends s ending.All
+  ends-read over known = record {
+    last = Some ReadToEnd;
+    read = record {
+      text = u.fed;
+      ended = true;
+      taken = u.bytes;
+      at_end = λ e. u.at_end over;
+      says = (refl, known);
+    };
+    ends = refl;
+    count = u.calm;
+    may = λ brief line e.
+        may-as job brief (rest s₀) given line ReadToEnd e
+        (may-end job brief true (rest s₀) (rest s) u.fed given None u.bytes (λ x. u.at_end over) known);
+  }
+
+  -- a line was refused
+  pub ends-refused : (refusal : RecordRefusal) → IsRefused job u.fed given old.reader.ended refusal →
+      Ends s (ending.Refused refusal)
+  ends-refused refusal refused = record {
+    last = Some (RefusedAt refusal);
+    read = record {
+      text = u.fed;
+      ended = old.reader.ended;
+      taken = u.bytes;
+      at_end = u.at_end;
+      says = refused;
+    };
+    ends = refl;
+    count = u.calm;
+    may = λ brief line e.
+        may-as job brief (rest s₀) given line (RefusedAt refusal) e
+        (may-end job brief old.reader.ended (rest s₀) (rest s) u.fed given (Some refusal) u.bytes u.at_end
+        (refused-now job u.fed given old.reader.ended refusal refused));
+  }
 
 module _ {S K : Type 0} (rest : S → Option (List ℕ)) (source_faults : S → ℕ) (got : K → Option (List ℕ)) (faults : K → ℕ)
-    (admits : K → List ℕ → Type 0) (job : Job) (slots : ℕ) (brief : Bool) (s₀ : S) (k₀ : K) where
-  abbrev pub UnderWay : S → K → Reading → LoopState → ℕ → Type 0
-  UnderWay s k reader events taken =
-      IsUnderWay rest source_faults got faults admits job slots brief s₀ s k₀ k reader events taken
+    (admits : K → List ℕ → Type 0) (job : Job) (brief : Bool) (s₀ s : S) (k₀ k : K) where
+  abbrev pub Stopped : S → K → Course → Ending → Type 0
+  Stopped s' k' at ended = HasStopped rest source_faults got faults admits job brief s₀ s' k₀ k' at ended
 
-  abbrev pub Stopped : S → K → LoopState → Ending → Type 0
-  Stopped s k events ended =
-      HasStopped rest source_faults got faults admits job slots brief s₀ s k₀ k events ended
+  -- the input ended so
+  pub stops-ended : (s' : S) (at : Course) (ended : Ending) →
+      IsSent got faults admits k₀ k (text_so_far job brief at) →
+      EndsInput rest source_faults job s₀ s' at.given ended → Stopped s' k at ended
+  stops-ended s' at ending.All sent h = record { input = h; bytes = sent }
+  stops-ended s' at (ending.Refused refusal) sent h = record { input = h; bytes = sent }
+  stops-ended s' at ending.Source sent h = record { input = h; bytes = sent }
+  stops-ended s' at ending.NoMemory sent h = record {
+    input = h;
+    bytes = (prefix-so-far got faults admits job brief at k₀ k sent, inl sent.calm);
+  }
+  stops-ended s' at ending.Sink sent h = absurd h
 
-  may-as : (given : List EventRecord) (line last : Last) → Some last ≡ Some line →
-      MayWrite job brief (rest s₀) (written job brief given (Some last)) →
-      MayWrite job brief (rest s₀) (written job brief given (Some line))
-  may-as given line last e may =
-      subst (λ l. MayWrite job brief (rest s₀) (written job brief given (Some l))) (same_Some last line e) may
+  -- memory ran out for the event of the record that was read
+  pub stops-unadmitted : (s' : S) (new : Input) (at next : Course) (it : EventRecord) →
+      IsSent got faults admits k₀ k (text_so_far job brief at) →
+      IsInput rest source_faults job s₀ s' (at.given ++ it ∷ []) new → next.given ≡ at.given →
+      Stopped s' k next ending.NoMemory
+  stops-unadmitted s' new at next it sent u same = record {
+    input = subst (λ l. HasEnded rest source_faults job s₀ s' l ending.NoMemory) (sym same)
+        (record {
+          last = None;
+          read = read-fewer job (rest s₀) (rest s') at.given it
+              (read-on job (rest s₀) (rest s') u.fed (at.given ++ it ∷ []) new.reader u.reads u.bytes u.at_end);
+          ends = tt;
+          count = u.calm;
+          may = λ brief line e. absurd (cc);
+        });
+    bytes = subst (λ l. WrittenBy got faults admits job brief (record at { given = l }) k₀ k ending.NoMemory) (sym same)
+        (prefix-so-far got faults admits job brief at k₀ k sent, inl sent.calm);
+  }
 
-  module _ (s : S) (k : K) (reader : Reading) (events : LoopState) (taken : ℕ)
-      (u : UnderWay s k reader events taken) where
-    -- what was written so far is a prefix of the reports of all
-    prefix : AppendsPrefix (got k₀) (got k) (written job brief u.given None)
-    prefix = prefix-of (got k₀) (got k) (written job brief (take events.handed u.given) None)
-        (reports_from job brief events.handed u.given) (written job brief u.given None) u.sent.bytes
-        (written-parts job brief u.given events.handed)
+  module _ (input : Input) (at : Course)
+      (u : IsUnderWay rest source_faults got faults admits job brief s₀ s k₀ k input at) where
+    input-left : (next : Course) (ended : Ending) → next.given ≡ at.given → EndsBy ended None →
+        HasEnded rest source_faults job s₀ s next.given ended
+    input-left next ended same ends =
+        subst (λ l. HasEnded rest source_faults job s₀ s l ended) (sym same)
+        (leaves-off rest source_faults job s₀ s at.given input u.read ended ends)
 
     -- memory ran out
-    out : (s' : S) (k' : K) (events' : LoopState) → IsRead job (rest s₀) (rest s') u.given None →
-        source_faults s' ≡ source_faults s₀ → Stays events events' → IsLoop events' → k' ≡ k →
-        Stopped s' k' events' ending.NoMemory
-    out s' k' events' read calm stays sound same = record {
-      given = u.given;
-      last = None;
-      read = read;
-      ends = tt;
-      source_count = calm;
-      over = over-stays job slots u.given events events' u.over stays sound;
-      bytes = (
-        subst (λ x. AppendsPrefix (got k₀) (got x) (written job brief u.given None)) (sym same) prefix,
-        ap faults same ∙ u.sent.calm,
-      );
-      may = λ line e. absurd (cc);
-    }
-
-    pub stops-memory : (k' : K) (events' : LoopState) → Stays events events' → IsLoop events' → k' ≡ k →
-        Stopped s k' events' ending.NoMemory
-    stops-memory k' events' stays sound same =
-        out s k' events' (read-on job (rest s₀) (rest s) u.fed u.given reader u.reads u.bytes u.at_end) u.source_calm stays
-        sound same
-
-    -- reading was stopped: the source failed, or memory ran out
-    pub stops-reading : (s' : S) (asked now : Reading) (taken taken' : ℕ) (ended : Ending) →
-        HasRead job u.fed u.given asked → asked.ended ≡ false → so_far job u.fed ≡ just u.given None →
-        FeedsOn rest source_faults s s' asked now taken taken' (Err ended) → IsLoop events → Stopped s' k events ended
-    stops-reading s' asked now taken taken' ending.Source has open_ known (keeps, rose) sound = record {
-      given = u.given;
-      last = Some SourceFailed;
-      read = record {
-        text = u.fed;
-        ended = false;
-        taken = Consumes-kept (rest s₀) (rest s) (rest s') u.fed u.bytes keeps;
-        at_end = λ e. cc;
-        says = (refl, known);
-      };
-      ends = refl;
-      source_count = rw (← u.source_calm) rose;
-      over = u.over;
-      bytes = u.sent;
-      may = λ line e.
-          may-as u.given line SourceFailed e
-          (may-end job brief false (rest s₀) (rest s) u.fed u.given None u.bytes (λ x. cc) known);
-    }
-    stops-reading s' asked now taken taken' ending.NoMemory has open_ known lost sound =
-        out s' k events
-        (read-lost job (rest s₀) (rest s) (rest s') u.fed lost.piece u.given asked has open_ u.bytes lost.bytes)
-        (lost.calm ∙ u.source_calm) (same-stays events events refl) sound refl
-    stops-reading s' asked now taken taken' ending.All has open_ known fed sound = absurd fed
-    stops-reading s' asked now taken taken' ending.Sink has open_ known fed sound = absurd fed
-    stops-reading s' asked now taken taken' (ending.Refused refusal) has open_ known fed sound = absurd fed
-
-    -- the input was read to its end
-    pub stops-read : reader.ended ≡ true → records_of job u.fed ≡ just u.given None → Stopped s k events ending.All
-    stops-read over known = record {
-      given = u.given;
-      last = Some ReadToEnd;
-      read = record {
-        text = u.fed;
-        ended = true;
-        taken = u.bytes;
-        at_end = λ e. u.at_end over;
-        says = (refl, known);
-      };
-      ends = refl;
-      source_count = u.source_calm;
-      over = u.over;
-      bytes = u.sent;
-      may = λ line e.
-          may-as u.given line ReadToEnd e
-          (may-end job brief true (rest s₀) (rest s) u.fed u.given None u.bytes (λ x. u.at_end over) known);
-    }
-
-    -- a line was refused
-    pub stops-refused : (refusal : RecordRefusal) → IsRefused job u.fed u.given reader.ended refusal →
-        Stopped s k events (ending.Refused refusal)
-    stops-refused refusal refused = record {
-      given = u.given;
-      last = Some (RefusedAt refusal);
-      read = record {
-        text = u.fed;
-        ended = reader.ended;
-        taken = u.bytes;
-        at_end = u.at_end;
-        says = refused;
-      };
-      ends = refl;
-      source_count = u.source_calm;
-      over = u.over;
-      bytes = u.sent;
-      may = λ line e.
-          may-as u.given line (RefusedAt refusal) e
-          (may-end job brief reader.ended (rest s₀) (rest s) u.fed u.given (Some refusal) u.bytes u.at_end
-          (refused-now job u.fed u.given reader.ended refusal refused));
+    pub stops-memory : (k' : K) (next : Course) → next.given ≡ at.given → k' ≡ k → Stopped s k' next ending.NoMemory
+    stops-memory k' next same still = record {
+      input = input-left next ending.NoMemory same tt;
+      bytes =
+          subst (λ x. WrittenBy got faults admits job brief next k₀ x ending.NoMemory) (sym still)
+          (subst (λ l. WrittenBy got faults admits job brief (record at { given = l }) k₀ k ending.NoMemory) (sym same)
+          (prefix-so-far got faults admits job brief at k₀ k u.sent, inl u.sent.calm));
     }
 
     -- the sink failed at a report
-    pub stops-broken : (k' : K) (events' : LoopState) → IsShown job brief events events' (IsBroken got faults k k') →
-        IsLoop events' → Stopped s k' events' ending.Sink
-    stops-broken k' events' w sound =
-        let report = report_on job brief w.event in
-        let later = reports_from job brief (events.handed + 1) u.given in
-        let front = written job brief (take events.handed u.given) None in
-        let there : slice_get u.given events.handed ≡ Some w.event =
-        ap (λ l. slice_get l events.handed) (sym u.over.records) ∙ w.there in
-        let whole : written job brief u.given None ≡ (front ++ report) ++ later =
-        written-parts job brief u.given events.handed
-        ∙ (ap (λ t. front ++ t) (reports-next job brief u.given events.handed w.event there)
-        ∙ sym (append_assoc front report later)) in
-        record {
-          given = u.given;
-          last = None;
-          read = read-on job (rest s₀) (rest s) u.fed u.given reader u.reads u.bytes u.at_end;
-          ends = tt;
-          source_count = u.source_calm;
-          over = over-stays job slots u.given events events' u.over (unmoved events events' w.desk) sound;
-          bytes = record {
-            bytes = prefix-more (got k₀) (got k') (front ++ report) later (written job brief u.given None)
-                (prefix-after (got k₀) (got k) (got k') front report (front ++ report) u.sent.bytes w.puts.bytes refl)
-                whole;
-            rose = rw (← u.sent.calm) w.puts.rose;
-          };
-          may = λ line e. absurd (cc);
-        }
+    pub stops-broken : (k' : K) (next : Course) → IsShown job brief at next (IsBroken got faults k k') →
+        Stopped s k' next ending.Sink
+    stops-broken k' next w = record {
+      input = input-left next ending.Sink (given-shown job brief at next (IsBroken got faults k k') w) tt;
+      bytes = broken-shown got faults admits job brief at next k₀ k k' u.sent w;
+    }

@@ -15,7 +15,7 @@ use Rattle.text_model.specs.Records.{Known}
 use Rattle.text_model.specs.Report.{report}
 use Rattle.text_model.specs.Whole.{Ending as Last, ReadToEnd, RefusedAt, SourceFailed, last_line, reports, whole}
 use Rattle.text_model.specs.declared.record_refusal.RecordRefusal.{RecordRefusal}
-use Rattle.hive_pump.specs.Going.{reports_from}
+use Rattle.hive_pump.specs.Course.{reports_from}
 use Rattle.hive_pump.specs.Steps.{IsSent, line_at, report_on}
 use Rattle.hive_pump.specs.Written.{CanCome, IsWhole, MayWrite, results, text_of, written}
 use Rattle.hive_pump.specs.declared.ending.Ending.TheVariants as ending

@@ -4,11 +4,13 @@ ghost use Rattle.event_laws.specs.Uncut.{HasNoCut};
 ghost use Rattle.event_loop.specs.Loop.{IsLoop};
 ghost use Rattle.hive_model.specs.Same.{texts};
 ghost use Rattle.hive_model.specs.Valid.{handle_names};
-ghost use Rattle.hive_pump.specs.Going.{DrainSays, FinishSays, RunsOut, reports_from, rest_of};
+ghost use Rattle.hive_pump.specs.Course.{reports_left};
+ghost use Rattle.hive_pump.specs.Going.{DrainSays, FinishSays, IsTold, RunsOut, course_of, rest_of};
 ghost use Rattle.hive_pump.specs.Steps.{HasLine};
 ghost use Rattle.scheduler_core.specs.Says.{is_closed};
 
 use crate::ending::Ending;
+use crate::pumped::Pumped;
 use crate::run::put_last;
 use crate::step::{Step, make_step};
 use event_loop::{EventLoop, Turn};
@@ -16,9 +18,47 @@ use hive_edge::Sink;
 use hive_model::Job;
 use std::alloc::Global;
 
-/// Finishes what was admitted, after reading has stopped so, writes the reports that are still to come, and the last
-/// line. After a failure of the sink it finishes without writing.
-pub(crate) fn finish<K: Sink>(
+/// Finishes what was admitted, after reading has stopped so, and tells what the run came to.
+pub(crate) fn end_run<K: Sink>(
+    alloc: Global,
+    job: &Job,
+    names: &[&str],
+    brief: bool,
+    ended: Ending,
+    events: EventLoop,
+    text: Vec<u8>,
+    sink: &mut K,
+) -> Pumped
+    requires uncut { HasNoCut job.now }
+    requires of_job { events.desk.job ≡ job.now }
+    requires sound { IsLoop events }
+    requires named { texts names.now ≡ handle_names job.now }
+    requires room { HasLine ended → K.admits sink.old (rest_of job.now brief ended (course_of events)) }
+    ensures { IsTold K.got K.faults K.admits job.now brief ended events sink.old sink.new result.ending
+        result.counts result.journal.items }
+{
+    let (mut events, mut text) = (events, text);
+    let ending = finish(
+        alloc,
+        job,
+        names,
+        brief,
+        ended,
+        &mut events,
+        &mut text,
+        sink,
+    );
+    let counts = *events.counts();
+    Pumped {
+        ending,
+        counts,
+        journal: events.into_journal(),
+    }
+}
+
+// Finishes what was admitted, after reading has stopped so, writes the reports that are still to come, and the last
+// line. After a failure of the sink it finishes without writing.
+fn finish<K: Sink>(
     alloc: Global,
     job: &Job,
     names: &[&str],
@@ -32,7 +72,7 @@ pub(crate) fn finish<K: Sink>(
     requires of_job { events.old.desk.job ≡ job.now }
     requires sound { IsLoop events.old }
     requires named { texts names.now ≡ handle_names job.now }
-    requires room { HasLine ended → K.admits sink.old (rest_of job.now brief ended events.old) }
+    requires room { HasLine ended → K.admits sink.old (rest_of job.now brief ended (course_of events.old)) }
     ensures says { FinishSays K.got K.faults K.admits job.now brief ended events.old events.new sink.old sink.new result }
     ensures is_loop { IsLoop events.new }
 {
@@ -72,7 +112,7 @@ fn write_out<K: Sink>(
     requires sound { IsLoop events.old }
     requires named { texts names.now ≡ handle_names job.now }
     requires ends { HasLine ended }
-    requires room { K.admits sink.old (rest_of job.now brief ended events.old) }
+    requires room { K.admits sink.old (rest_of job.now brief ended (course_of events.old)) }
     ensures says { FinishSays K.got K.faults K.admits job.now brief ended events.old events.new sink.old sink.new result }
     ensures is_loop { IsLoop events.new }
 {
@@ -83,6 +123,7 @@ fn write_out<K: Sink>(
         Step::NoMemory => Ending::NoMemory,
         Step::Went => unreachable!(),
         Step::Idle => unreachable!(),
+        Step::Lost => unreachable!(),
     }
 }
 
@@ -101,7 +142,7 @@ fn drain<K: Sink>(
     requires sound { IsLoop events.old }
     requires closed { is_closed events.old.desk ≡ true }
     requires named { texts names.now ≡ handle_names job.now }
-    requires room { K.admits sink.old (reports_from job.now brief events.old.handed events.old.desk.admitted) }
+    requires room { K.admits sink.old (reports_left job.now brief (course_of events.old)) }
     ensures says { DrainSays K.got K.faults K.admits job.now brief events.old events.new sink.old sink.new result }
     ensures is_loop { IsLoop events.new }
 {
@@ -112,6 +153,7 @@ fn drain<K: Sink>(
             Step::Over => return Step::Over,
             Step::Broken => return Step::Broken,
             Step::NoMemory => return Step::NoMemory,
+            Step::Lost => return Step::Lost,
         }
     }
 }

@@ -5,13 +5,18 @@
 //! for them, each event evaluated by itself, or a prefix of it where the sink failed or memory ran out.
 #![tactic(auto)]
 
+mod beside;
 mod ending;
 mod finish;
+mod input;
+mod plain;
 mod plan;
-mod pump;
+mod pumped;
 mod run;
 mod step;
 
+pub use beside::pump;
 pub use ending::Ending;
+pub use plain::pump_plain;
 pub use plan::Plan;
-pub use pump::{Pumped, pump_plain};
+pub use pumped::Pumped;

@@ -1,6 +1,7 @@
 //! Steps of a run: a piece of the input, and the last line.
 ghost use Rattle.std.specs.Prelude.{◌≡◌, ◌<◌, ◌+◌, ◌^◌, [], OnOk, false, length};
-ghost use Rattle.hive_pump.specs.Steps.{FeedsOn, HasLine, PutsLast, line_at};
+ghost use Rattle.hive_pump.specs.Input.{FeedsOn};
+ghost use Rattle.hive_pump.specs.Steps.{HasLine, PutsLast, line_at};
 
 use crate::ending::Ending;
 use event_records::Records;

@@ -5,7 +5,8 @@ ghost use Rattle.event_loop.specs.Loop.{IsLoop};
 ghost use Rattle.hive_model.specs.EventRecord.{EventRecord as Record};
 ghost use Rattle.hive_model.specs.Same.{texts};
 ghost use Rattle.hive_model.specs.Valid.{handle_names};
-ghost use Rattle.hive_pump.specs.Going.{PutsAs, StepSays};
+ghost use Rattle.hive_pump.specs.Course.{PutsAs};
+ghost use Rattle.hive_pump.specs.Going.{StepSays};
 ghost use Rattle.hive_pump.specs.Steps.{report_on};
 ghost use Rattle.text_model.specs.Whole.{reports};
 
@@ -28,6 +29,8 @@ pub(crate) enum Step {
     Broken,
     /// Memory ran out.
     NoMemory,
+    /// The loop beside workers has lost track, since others admit or end events, too.
+    Lost,
 }
 
 /// Makes a step, and writes the report of the result that it hands out, unless the run is brief.
@@ -57,8 +60,8 @@ pub(crate) fn make_step<K: Sink>(
     }
 }
 
-// Writes the report of an event that ended, as a step.
-fn put<K: Sink>(
+/// Writes the report of an event that ended, as a step.
+pub(crate) fn put<K: Sink>(
     job: &Job,
     names: &[&str],
     brief: bool,

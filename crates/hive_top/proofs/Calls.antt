@@ -1,33 +1,27 @@
 -- What a call came to, by what stopped it or what came of its job.
-use Rattle.std.proofs.Common.{◌≡◌, ◌≢◌, ◌⊎◌, inl, inr, ℕ, nat_eq, Bool, true, false, List, [], ◌∷◌, ◌++◌, length, Option, Some, None, Result, Ok, Err, IfSome, if◌then◌else◌, refl, sym, ap, subst, ◌∙◌, append_assoc, append-nil}
-use Rattle.std.specs.Io.KnownBytes.{Consumes, IsAtEnd}
-use Rattle.std.specs.Option.{option_map_or}
-use Rattle.event_records.specs.Reading.{IsFuture}
+use Rattle.std.proofs.Common.{◌≡◌, ◌≢◌, ◌⊎◌, inl, inr, ℕ, nat_eq, Bool, true, false, List, [], ◌++◌, length, Option, Some, None, Result, Ok, Err, IfSome, if◌then◌else◌, refl, sym, ap, ◌∙◌}
+use Rattle.std.specs.Io.KnownBytes.{Consumes}
 use Rattle.event_records.proofs.Growing.{known-on}
 use Rattle.hive_edge.specs.Shelf.{Files}
-use Rattle.hive_model.specs.Event.{event_result}
 use Rattle.hive_model.specs.EventRecord.{EventRecord}
 use Rattle.hive_model.specs.Job.{Job}
 use Rattle.hive_model.specs.declared.entry.Entry.{Entry}
-use Rattle.hive_pump.specs.Pumped.{CountsSource}
-use Rattle.hive_pump.specs.Reading.{IsRead}
-use Rattle.hive_pump.specs.Written.{AppendsPrefix, CanCome, IsWhole, MayWrite, results, text_of, written}
+use Rattle.hive_pump.specs.Written.{AppendsPrefix, CanCome, IsWhole, MayWrite, results, text_of}
 use Rattle.text_model.specs.Records.{Known, most_events, records_of, so_far}
-use Rattle.text_model.specs.Report.{report}
-use Rattle.text_model.specs.Whole.{Ending as Last, ReadToEnd, RefusedAt, SourceFailed, is_ok, last_line, reports, tally, whole}
+use Rattle.text_model.specs.Whole.{Ending as Last, ReadToEnd, RefusedAt, SourceFailed, is_ok, tally}
 use Rattle.text_model.specs.declared.record_refusal.RecordRefusal.{RecordRefusal}
 use Rattle.hive_top.specs.Answer.{Answer, IsDue, IsDueOfFile, IsDueOfJob, IsDueOfVerb, bulk_answer, checked, file_job, generated, named_job, run_answer, status_of, stopped}
 use Rattle.hive_top.specs.Called.{BearsOut, Called, CountsShelf, ReadsJob, Wrote}
-use Rattle.hive_top.specs.RunsTo.{RunsTo, WroteRun}
+use Rattle.hive_top.specs.RunsTo.{RunsTo}
 use Rattle.hive_top.specs.Status.{IsOneOf}
 use Rattle.hive_top.specs.Stopped.{status_at, text_at}
 use Rattle.hive_top.specs.Words.{command_of, file_of}
-use Rattle.hive_top.specs.Works.{MayWork, WorksTo}
 use Rattle.hive_top.specs.declared.status.Status.{Status}
 use Rattle.hive_top.specs.declared.status.Status.TheVariants as status
 use Rattle.hive_top.specs.declared.stop.Stop.{Stop}
 use Rattle.hive_top.specs.declared.stop.Stop.TheVariants as stop
 use Rattle.hive_top.specs.declared.commands.Command.TheVariants.{OnFile, Generate, Bulk}
+use Rattle.hive_top.specs.declared.commands.Concurrency.{Concurrency}
 use Rattle.hive_top.specs.declared.commands.Generated.{Generated}
 use Rattle.hive_top.specs.declared.commands.How.{How}
 use Rattle.hive_top.specs.declared.commands.Input.{Input}
@@ -156,22 +150,14 @@ module _ (words : List (List ℕ)) (files : Option Files) (rest : Option (List �
       by (Some refusal) some =
           room rest false false (run_answer job how.brief SourceFailed (so_far job t)) (due-job rest how job false _ is reads (refused refusal some rest come))
 
-  -- so is each that the work of a verb may come to write
-  pub room-work : (admits : List ℕ → Type 0)
-      (room : (now : Option (List ℕ)) (shelf source : Bool) (a : Answer) → IsDue words files rest now shelf source a → admits a.text)
-      (verb : Verb) (job : Job) → command_of words ≡ Some (OnFile verb) → ReadsJob (named_job (file_of words) files) (Ok job) →
-      MayWork verb job rest admits
-  room-work admits room (Run how) job is reads = room-run admits room how job is reads
-  room-work admits room Check job is reads = room rest false false (checked job) (due-check rest job is reads)
-
   -- a generated text, and the last line of a run of generated records
   pub due-text : (now : Option (List ℕ)) (text : Generated) → command_of words ≡ Some (Generate text) →
       IsDue words files rest now false false (generated text)
   due-text now text is = record { due = rw is refl }
 
-  pub due-bulk : (now : Option (List ℕ)) (input : Input) (slots : ℕ) → command_of words ≡ Some (Bulk input slots) →
+  pub due-bulk : (now : Option (List ℕ)) (input : Input) (concurrency : Concurrency) → command_of words ≡ Some (Bulk input concurrency) →
       IsDue words files rest now false false (bulk_answer input (file_job options_text))
-  due-bulk now input slots is = record { due = rw is refl }
+  due-bulk now input concurrency is = record { due = rw is refl }
 
 module _ (words : List (List ℕ)) (files : Option Files) (rest got got' : Option (List ℕ)) (f f' s k k' : ℕ) where
   abbrev pub CalledHere : Status → Type 0
@@ -269,19 +255,20 @@ module _ (words : List (List ℕ)) (files : Option Files) (rest got got' : Optio
       by (inr (inr a)) e = let x = sym a ∙ e in cc
 
   -- a run of generated records
-  pub called-bulk : (ended : Status) (input : Input) (slots : ℕ) → command_of words ≡ Some (Bulk input slots) → f' ≡ f →
+  pub called-bulk : (ended : Status) (input : Input) (concurrency : Concurrency) → command_of words ≡ Some (Bulk input concurrency) → f' ≡ f →
       Wrote ended got got' k k' (bulk_answer input (file_job options_text)) → ended ≢ status.Input → CalledHere ended
-  called-bulk ended input slots is calm wrote never =
-      called-with ended false (bulk_answer input (file_job options_text)) calm (due-bulk words files rest rest input slots is) wrote
+  called-bulk ended input concurrency is calm wrote never =
+      called-with ended false (bulk_answer input (file_job options_text)) calm (due-bulk words files rest rest input concurrency is) wrote
       (λ e. absurd (never e))
 
--- what came of a job, by what its verb says
-pub called-work : (words : List (List ℕ)) (files : Option Files) (rest now got got' : Option (List ℕ)) (f f' s s' k k' : ℕ) (verb : Verb)
-    (job : Job) → command_of words ≡ Some (OnFile verb) → ReadsJob (named_job (file_of words) files) (Ok job) → f' ≡ f →
+-- what came of the run of a job
+pub called-run : (words : List (List ℕ)) (files : Option Files) (rest now got got' : Option (List ℕ)) (f f' s s' k k' : ℕ) (how : How)
+    (job : Job) → command_of words ≡ Some (OnFile (Run how)) → ReadsJob (named_job (file_of words) files) (Ok job) → f' ≡ f →
     (ended : Status) (journal : List Entry) →
-    WorksTo verb job rest now got got' s s' k k' ended journal → Called words files rest now got got' f f' s s' k k' ended
-called-work words files rest now got got' f f' s s' k k' (Run how) job is reads same ended journal ran =
-    let came = came-to job how.brief rest now got got' s s' k k' how.slots ended journal ran in
+    RunsTo job how.concurrency.slots how.brief rest now got got' s s' k k' ended journal →
+    Called words files rest now got got' f f' s s' k k' ended
+called-run words files rest now got got' f f' s s' k k' how job is reads same ended journal ran =
+    let came = came-to job how.brief rest now got got' s s' k k' how.concurrency.slots ended journal ran in
     record {
       shelf = false;
       source = came.source;
@@ -292,9 +279,6 @@ called-work words files rest now got got' f f' s s' k k' (Run how) job is reads 
       wrote = came.wrote;
       input = λ e. inr (came.input e);
     }
-called-work words files rest now got got' f f' s s' k k' Check job is reads same ended journal
-    (wrote, kept, calm, empty) =
-    rw (kept, calm) (called-check words files rest got got' f f' s k k' ended job is reads same wrote)
 
 -- the run of a job doesn't end as wrong words do
 
@@ -312,10 +296,3 @@ pub ran-words : (job : Job) (slots : ℕ) (brief : Bool) (rest now got got' : Op
 ran-words job slots brief rest now got got' s s' k k' ended journal ran e =
     let wrote = rw e at ran.wrote in
     never-words job ran.given wrote.0 wrote.2
-
--- by another name of the status
-pub as-told : (words : List (List ℕ)) (files : Option Files) (rest now got got' : Option (List ℕ)) (f f' s s' k k' : ℕ)
-    (ended told : Status) → Called words files rest now got got' f f' s s' k k' ended → told ≡ ended →
-    Called words files rest now got got' f f' s s' k k' told
-as-told words files rest now got got' f f' s s' k k' ended told c e =
-    subst (λ x. Called words files rest now got got' f f' s s' k k' x) (sym e) c

@@ -1,32 +1,24 @@
 -- What came of a run, whatever the words were that asked for it.
-use Rattle.std.proofs.Common.{◌≡◌, ◌≢◌, ◌⊎◌, inl, inr, ℕ, nat_eq, Bool, true, false, List, [], ◌∷◌, ◌++◌, length, Option, Some, None, Result, Ok, Err, IfSome, if◌then◌else◌, refl, sym, ap, subst, ◌∙◌, append_assoc, append-nil}
+use Rattle.std.proofs.Common.{◌≡◌, ℕ, nat_eq, Bool, true, false, List, [], ◌∷◌, ◌++◌, length, Option, Some, None, IfSome, if◌then◌else◌, refl, sym, ap, ◌∙◌, append_assoc, append-nil}
 use Rattle.std.specs.Io.KnownBytes.{Consumes, IsAtEnd}
 use Rattle.std.specs.Option.{option_map_or}
 use Rattle.event_records.specs.Reading.{IsFuture}
-use Rattle.event_records.proofs.Growing.{known-on}
-use Rattle.hive_edge.specs.Shelf.{Files}
 use Rattle.hive_model.specs.Event.{event_result}
 use Rattle.hive_model.specs.EventRecord.{EventRecord}
 use Rattle.hive_model.specs.Job.{Job}
 use Rattle.hive_model.specs.declared.entry.Entry.{Entry}
 use Rattle.hive_pump.specs.Pumped.{CountsSource}
 use Rattle.hive_pump.specs.Reading.{IsRead}
-use Rattle.hive_pump.specs.Written.{AppendsPrefix, CanCome, IsWhole, MayWrite, results, text_of, written}
-use Rattle.text_model.specs.Records.{Known, most_events, records_of, so_far}
+use Rattle.hive_pump.specs.Written.{AppendsPrefix, results, text_of, written}
+use Rattle.text_model.specs.Records.{Known, records_of}
 use Rattle.text_model.specs.Report.{report}
 use Rattle.text_model.specs.Whole.{Ending as Last, ReadToEnd, RefusedAt, SourceFailed, is_ok, last_line, reports, tally, whole}
 use Rattle.text_model.specs.declared.record_refusal.RecordRefusal.{RecordRefusal}
-use Rattle.hive_top.specs.Answer.{Answer, IsDue, IsDueOfFile, IsDueOfJob, IsDueOfVerb, checked, named_job, run_answer, status_of, stopped}
-use Rattle.hive_top.specs.Called.{BearsOut, Called, CountsShelf, ReadsJob, Wrote}
+use Rattle.hive_top.specs.Answer.{Answer, IsDueOfJob, run_answer, status_of}
+use Rattle.hive_top.specs.Called.{BearsOut, Wrote}
 use Rattle.hive_top.specs.RunsTo.{RunsTo, WroteRun}
-use Rattle.hive_top.specs.Status.{IsOneOf}
-use Rattle.hive_top.specs.Stopped.{status_at, text_at}
-use Rattle.hive_top.specs.Words.{command_of}
-use Rattle.hive_top.specs.Works.{MayWork, WorksTo}
 use Rattle.hive_top.specs.declared.status.Status.{Status}
 use Rattle.hive_top.specs.declared.status.Status.TheVariants as status
-use Rattle.hive_top.specs.declared.stop.Stop.{Stop}
-use Rattle.hive_top.specs.declared.stop.Stop.TheVariants as stop
 
 -- the answer of these records with this end
 abbrev answer-of : Job → Bool → List EventRecord → Last → Answer

@@ -1,5 +1,5 @@
 -- A run of generated records: its line in memory, what was written of it, and its journal.
-use Rattle.std.proofs.Common.{◌≡◌, ◌≢◌, ◌⊎◌, inl, inr, ℕ, ◌≤◌, nat_le, length, Bool, true, false, List, [], ◌++◌, Option, Some, None, Result, Ok, Err, refl, sym, subst, ap, ◌∙◌, arith}
+use Rattle.std.proofs.Common.{◌≡◌, ◌≢◌, inl, ℕ, ◌≤◌, nat_le, length, Bool, true, false, List, [], ◌++◌, Option, Some, Ok, Err, refl, sym, subst, ◌∙◌, arith}
 use Rattle.std.proofs.KnownBytes.{Appends-nil}
 use Rattle.std.proofs.lemmas.Bool.Decides.{nat_tests}
 use Rattle.std.specs.Io.KnownBytes.{Appends, Keeps}
@@ -9,7 +9,7 @@ use Rattle.hive_gen.specs.OptionsText.{options_text}
 use Rattle.hive_model.specs.EventRecord.{EventRecord}
 use Rattle.hive_model.specs.Job.{Job}
 use Rattle.hive_model.specs.declared.entry.Entry.{Entry}
-use Rattle.hive_pump.specs.Pumped.{CountsSource, IsPumped}
+use Rattle.hive_pump.specs.Pumped.{IsPumped}
 use Rattle.hive_pump.specs.Written.{AppendsPrefix, results, written}
 use Rattle.hive_pump.specs.declared.ending.Ending.{Ending}
 use Rattle.hive_pump.specs.declared.ending.Ending.TheVariants as ending
@@ -20,9 +20,9 @@ use Rattle.text_model.specs.declared.limits.TheConstants.{MOST_OPTIONS_BYTES}
 use Rattle.hive_top.proofs.Calls.{ran-words}
 use Rattle.hive_top.proofs.CameTo.{CameTo, came-to}
 use Rattle.hive_top.proofs.Journals.{has-run, out-of, want}
-use Rattle.hive_top.proofs.Runs.{by-counts, completed, not-memory, not-output, run-of, unread}
+use Rattle.hive_top.proofs.Runs.{by-counts, completed, not-memory, not-output, run-of}
 use Rattle.hive_top.specs.Answer.{Answer, IsDueOfJob, bulk_answer, file_job, run_answer, status_of, stopped}
-use Rattle.hive_top.specs.Bulk.{RunsRecords, WroteLine}
+use Rattle.hive_top.specs.Bulk.{WroteLine}
 use Rattle.hive_top.specs.Called.{BearsOut, IsOfText, ReadsJob, Wrote}
 use Rattle.hive_top.specs.Journals.{JournalOfBulk}
 use Rattle.hive_top.specs.RunsTo.{Flushes, RunsTo, WroteRun, status_by}
@@ -179,26 +179,27 @@ module _ (input : Input) (slots : ℕ) (got got' : Option (List ℕ)) (k k' : �
   abbrev pub Text : List ℕ
   Text = records_text input.start input.events
 
-  module _ (job : Job) (reads : Ok job ≡ file_job options_text) (did : RunsRecords job slots Text got got' k k' ended journal) where
-    came : CameTo job true (Some Text) did.now got got' 0 0 k k' ended
-    came = came-to job true (Some Text) did.now got got' 0 0 k k' slots ended journal did.ran
+  module _ (job : Job) (now : Option (List ℕ)) (reads : Ok job ≡ file_job options_text)
+      (ran : RunsTo job slots true (Some Text) now got got' 0 0 k k' ended journal) where
+    came : CameTo job true (Some Text) now got got' 0 0 k k' ended
+    came = came-to job true (Some Text) now got got' 0 0 k k' slots ended journal ran
 
     pub bulk-wrote : Wrote ended got got' k k' (bulk_answer input (file_job options_text))
     bulk-wrote =
         subst (λ read. Wrote ended got got' k k' (bulk_answer input read)) reads
-        (came-whole job Text did.now got got' k k' ended came)
+        (came-whole job Text now got got' k k' ended came)
 
     pub bulk-journal : JournalOfBulk input slots (out-of got got' k k' ended) journal
     bulk-journal = record {
-      now = did.now;
-      is = rw (← reads) (has-run job slots true (Some Text) did.now got got' 0 0 k k' ended journal did.ran);
+      now = now;
+      is = rw (← reads) (has-run job slots true (Some Text) now got got' 0 0 k k' ended journal ran);
     }
 
     pub bulk-input : ended ≢ status.Input
-    bulk-input e = came-calm job Text did.now got got' k k' ended came e
+    bulk-input e = came-calm job Text now got got' k k' ended came e
 
     pub bulk-words : ended ≢ status.Words
-    bulk-words e = ran-words job slots true (Some Text) did.now got got' 0 0 k k' ended journal did.ran e
+    bulk-words e = ran-words job slots true (Some Text) now got got' 0 0 k k' ended journal ran e
 
   -- the options are refused, or memory ran out at them
   pub stop-wrote : (it : Stop) → ReadsJob (Some (file_job options_text)) (Err it) → IsOfText (Err it) →
@@ -248,22 +249,3 @@ fits-limit text e = rw e (by few-options)
   where
     by : nat_le (length options_text) MOST_OPTIONS_BYTES ≡ true → length options_text ≤ MOST_OPTIONS_BYTES
     by few = grind (arith, nat_tests)
-
--- the run in memory, as its parts were made
-
-pub runs-none : (job : Job) (slots : ℕ) (text : List ℕ) (got : Option (List ℕ)) (k : ℕ) (ended : Status) (journal : List Entry) →
-    ended ≡ status.NoMemory → journal ≡ [] → RunsRecords job slots text got got k k ended journal
-runs-none job slots text got k ended journal e empty =
-    record { now = Some text; ran = unread job slots true (Some text) got 0 k ended journal e empty }
-
-pub pumped-as : (job job' : Job) (slots slots' : ℕ) (brief : Bool) (text text' : List ℕ) (now : Option (List ℕ))
-    (first line : List ℕ) (m m' : ℕ) (counts : Counts) (journal : List Entry) (ended : Ending) → job' ≡ job → slots' ≡ slots →
-    brief ≡ true → text' ≡ text → first ≡ [] →
-    IsPumped job' slots' brief (Some text') now (Some first) (Some line) 0 0 m m' ended counts journal →
-    Pumped job slots text now line m m' counts journal ended
-pumped-as job job' slots slots' brief text text' now first line m m' counts journal ended a b c d e h = rw (a, b, c, d, e) at h
-
-pub wrote-as : (line line' : List ℕ) (before before' after : Status) (got got' : Option (List ℕ)) (k k' : ℕ) → line' ≡ line →
-    before' ≡ before → WroteLine line' before' after got got' k k' → WroteLine line before after got got' k k'
-wrote-as line line' before before' after got got' k k' a b h =
-    subst (λ x. WroteLine line x after got got' k k') b (subst (λ l. WroteLine l before' after got got' k k') a h)

@@ -1,11 +1,9 @@
 -- The journal that a call hands out, by what came of its words, its files and its job.
-use Rattle.std.proofs.Common.{◌≡◌, ◌≢◌, ◌⊎◌, inl, inr, ℕ, Bool, true, false, List, [], Option, Some, None, Result, Ok, Err, IfSome, refl, sym, subst, ◌∙◌}
+use Rattle.std.proofs.Common.{◌≡◌, ◌≢◌, ℕ, Bool, true, false, List, [], Option, Some, None, Result, Ok, Err, IfSome, refl, sym, subst}
 use Rattle.std.proofs.KnownBytes.{Appends-nil}
 use Rattle.std.specs.Prelude.{IsSome}
 use Rattle.hive_edge.specs.Fault.{Calm}
 use Rattle.hive_edge.specs.Shelf.{Files}
-use Rattle.hive_gen.specs.EventTexts.{records_text}
-use Rattle.hive_gen.specs.OptionsText.{options_text}
 use Rattle.hive_model.specs.EventRecord.{EventRecord}
 use Rattle.hive_model.specs.Job.{Job}
 use Rattle.hive_model.specs.declared.entry.Entry.{Entry}
@@ -13,18 +11,17 @@ use Rattle.hive_pump.proofs.Stopping.{read-nothing}
 use Rattle.hive_pump.specs.Written.{AppendsPrefix, written}
 use Rattle.text_model.specs.Whole.{Ending as Last}
 use Rattle.hive_top.proofs.DueLaws.{not-calm, prefix-whole, rose-is}
-use Rattle.hive_top.proofs.Runs.{completed, empty-run, whole}
-use Rattle.hive_top.specs.Answer.{CanRise, file_job, named_job, rose}
-use Rattle.hive_top.specs.Bulk.{RunsRecords}
+use Rattle.hive_top.proofs.Runs.{empty-run}
+use Rattle.hive_top.specs.Answer.{CanRise, named_job, rose}
 use Rattle.hive_top.specs.Called.{CountsShelf, ReadsJob}
-use Rattle.hive_top.specs.Journals.{HasRun, IsJournalOf, JournalOf, JournalOfBulk, JournalOfFile, JournalOfRead, Output, TellsJournal}
-use Rattle.hive_top.specs.RunsTo.{JournalBy, RunsTo, WroteRun}
+use Rattle.hive_top.specs.Journals.{HasRun, IsJournalOf, JournalOfBulk, JournalOfFile, JournalOfRead, Output, TellsJournal}
+use Rattle.hive_top.specs.RunsTo.{RunsTo, WroteRun}
 use Rattle.hive_top.specs.Status.{IsWhole}
 use Rattle.hive_top.specs.Words.{command_of, file_of}
-use Rattle.hive_top.specs.Works.{WorksTo}
-use Rattle.hive_top.specs.declared.commands.Command.{Command}
 use Rattle.hive_top.specs.declared.commands.Command.TheVariants.{OnFile, Generate, Bulk}
+use Rattle.hive_top.specs.declared.commands.Concurrency.{Concurrency}
 use Rattle.hive_top.specs.declared.commands.Generated.{Generated}
+use Rattle.hive_top.specs.declared.commands.How.{How}
 use Rattle.hive_top.specs.declared.commands.Input.{Input}
 use Rattle.hive_top.specs.declared.commands.Verb.{Verb}
 use Rattle.hive_top.specs.declared.commands.Verb.TheVariants.{Run, Check}
@@ -118,25 +115,27 @@ module _ (words : List (List ℕ)) (files : Option Files) (rest now got got' : O
   pub journal-text : (text : Generated) → command_of words ≡ Some (Generate text) → f' ≡ f → journal ≡ [] → Tells
   journal-text text is calm empty = record { shelf = false; count = calm; is = record { by_words = rw is empty } }
 
-  pub journal-bulk : (input : Input) (slots : ℕ) → command_of words ≡ Some (Bulk input slots) → f' ≡ f →
-      JournalOfBulk input slots (out-of got got' k k' ended) journal → Tells
-  journal-bulk input slots is calm ran = record { shelf = false; count = calm; is = record { by_words = rw is ran } }
+  pub journal-bulk : (input : Input) (concurrency : Concurrency) → command_of words ≡ Some (Bulk input concurrency) → f' ≡ f →
+      JournalOfBulk input concurrency.slots (out-of got got' k k' ended) journal → Tells
+  journal-bulk input concurrency is calm ran = record { shelf = false; count = calm; is = record { by_words = rw is ran } }
 
-  pub journal-work : (verb : Verb) (job : Job) (s s' : ℕ) → command_of words ≡ Some (OnFile verb) →
-      ReadsJob (named_job (file_of words) files) (Ok job) → f' ≡ f → WorksTo verb job rest now got got' s s' k k' ended journal → Tells
-  journal-work (Run how) job s s' is reads calm ran = record {
+  pub journal-check : command_of words ≡ Some (OnFile Check) → f' ≡ f → journal ≡ [] → Tells
+  journal-check is calm empty = record { shelf = false; count = calm; is = record { by_words = rw is empty } }
+
+  pub journal-run : (how : How) (job : Job) (s s' : ℕ) → command_of words ≡ Some (OnFile (Run how)) →
+      ReadsJob (named_job (file_of words) files) (Ok job) → f' ≡ f →
+      RunsTo job how.concurrency.slots how.brief rest now got got' s s' k k' ended journal → Tells
+  journal-run how job s s' is reads calm ran = record {
     shelf = false;
     count = calm;
     is = record {
       by_words = rw is (record {
         read = Ok job;
         told = reads;
-        is = has-run job how.slots how.brief rest now got got' s s' k k' ended journal ran;
+        is = has-run job how.concurrency.slots how.brief rest now got got' s s' k k' ended journal ran;
       });
     };
   }
-  journal-work Check job s s' is reads calm did =
-      record { shelf = false; count = calm; is = record { by_words = rw is did.3 } }
 
   pub journal-told : Tells → CanRise f' → IsJournalOf words files rest now (rose f f') (out-of got got' k k' ended) journal
   journal-told t below =
@@ -181,15 +180,15 @@ module _ (words : List (List ℕ)) (files : Option Files) (rest got got' : Optio
   journal-stop (Run how) stop.Shelf is reads count memory =
       record { shelf = true; count = count; is = record { by_words = rw is empty } }
   journal-stop (Run how) stop.Words is reads count memory =
-      record { shelf = false; count = count; is = record { by_words = rw is (read-to how.slots how.brief stop.Words reads) } }
+      record { shelf = false; count = count; is = record { by_words = rw is (read-to how.concurrency.slots how.brief stop.Words reads) } }
   journal-stop (Run how) stop.TooLong is reads count memory =
-      record { shelf = false; count = count; is = record { by_words = rw is (read-to how.slots how.brief stop.TooLong reads) } }
+      record { shelf = false; count = count; is = record { by_words = rw is (read-to how.concurrency.slots how.brief stop.TooLong reads) } }
   journal-stop (Run how) (stop.Options refusal) is reads count memory =
       record {
         shelf = false;
         count = count;
-        is = record { by_words = rw is (read-to how.slots how.brief (stop.Options refusal) reads) };
+        is = record { by_words = rw is (read-to how.concurrency.slots how.brief (stop.Options refusal) reads) };
       }
   journal-stop (Run how) stop.NoMemory is reads count memory =
       let m = memory refl in
-      record { shelf = false; count = count; is = record { by_words = rw is (want-file how.slots how.brief m.0 m.1) } }
+      record { shelf = false; count = count; is = record { by_words = rw is (want-file how.concurrency.slots how.brief m.0 m.1) } }

@@ -14,3 +14,6 @@ pub mod Journals
 pub mod Tracing
 -- runs of generated records
 pub mod Generating
+-- what a call came to
+pub mod Tasks
+pub mod Endings

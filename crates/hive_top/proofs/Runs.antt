@@ -1,6 +1,6 @@
 -- What the run of a job came to, by its run and its last flush.
 use Rattle.std.proofs.Common.{◌≡◌, ◌⊎◌, inl, inr, ℕ, nat_eq, Bool, true, false, List, [], Option, Some, None, if◌then◌else◌, length, refl, sym, subst, ◌∙◌, append-nil}
-use Rattle.std.proofs.KnownBytes.{Appends-kept, Appends-nil}
+use Rattle.std.proofs.KnownBytes.{Appends-kept}
 use Rattle.std.specs.Io.KnownBytes.{Appends, Keeps}
 use Rattle.std.specs.Prelude.{IsSomeAnd}
 use Rattle.hive_edge.specs.Fault.{Rose}
@@ -13,7 +13,6 @@ use Rattle.hive_pump.specs.Pumped.{IsPumped}
 use Rattle.hive_pump.specs.Written.{AppendsPrefix, results, written}
 use Rattle.hive_pump.specs.declared.ending.Ending.{Ending}
 use Rattle.hive_pump.specs.declared.ending.Ending.TheVariants as ending
-use Rattle.hive_pump.proofs.Stopping.{read-nothing}
 use Rattle.report_text.specs.Tallied.{CountsAll}
 use Rattle.report_text.specs.declared.counts.Counts.{Counts}
 use Rattle.text_model.specs.Whole.{Ending as Last, ReadToEnd, RefusedAt, SourceFailed}
@@ -32,23 +31,6 @@ pub empty-run : (job : Job) (slots : ℕ) (journal : List Entry) → journal ≡
 empty-run job slots journal e =
     subst (λ l. IsWholeRun job slots [] l) (sym e)
     (subst (λ o. IsSomeAnd o (λ (m : Machine). m.admitted ≡ 0)) (sym (led-none job slots)) refl)
-
-unread-so : (job : Job) (slots : ℕ) (brief : Bool) (rest got : Option (List ℕ)) (s k : ℕ) (journal : List Entry) → journal ≡ [] →
-    RunsTo job slots brief rest rest got got s s k k status.NoMemory journal
-unread-so job slots brief rest got s k journal empty = record {
-  given = [];
-  last = None;
-  read = read-nothing job rest;
-  source_count = refl;
-  wrote = (record { front = []; back = written job brief [] None; whole = refl; bytes = Appends-nil got }, inl refl);
-  run = empty-run job slots journal empty;
-}
-
-pub unread : (job : Job) (slots : ℕ) (brief : Bool) (rest got : Option (List ℕ)) (s k : ℕ) (ended : Status) (journal : List Entry) →
-    ended ≡ status.NoMemory → journal ≡ [] → RunsTo job slots brief rest rest got got s s k k ended journal
-unread job slots brief rest got s k ended journal e empty =
-    subst (λ x. RunsTo job slots brief rest rest got got s s k k x journal) (sym e)
-    (unread-so job slots brief rest got s k journal empty)
 
 -- the prefix stays where nothing more is written
 prefix-same : (old mid new : Option (List ℕ)) (text : List ℕ) → AppendsPrefix old mid text → new ≡ mid → AppendsPrefix old new text

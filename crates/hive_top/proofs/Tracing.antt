@@ -1,5 +1,5 @@
 -- What a call comes to after its journal was written, or was not asked for.
-use Rattle.std.proofs.Common.{◌≡◌, ◌≢◌, ◌⊎◌, inl, inr, ℕ, Bool, true, false, List, [], Option, Some, None, Result, Ok, Err, IfSome, refl, sym, subst, ap, ◌∙◌}
+use Rattle.std.proofs.Common.{◌≡◌, ◌≢◌, ◌⊎◌, inl, inr, ℕ, Bool, true, false, List, [], Option, Some, None, Result, Ok, Err, IfSome, refl, sym, subst, ◌∙◌}
 use Rattle.std.proofs.KnownBytes.{Appends-kept, Appends-nil}
 use Rattle.std.specs.Io.KnownBytes.{Appends, Keeps}
 use Rattle.std.specs.Prelude.{IsSome, MatchOption}
@@ -11,15 +11,14 @@ use Rattle.hive_model.specs.EventRecord.{EventRecord}
 use Rattle.hive_model.specs.Job.{Job}
 use Rattle.hive_model.specs.Replay.{IsCompleteRun}
 use Rattle.hive_model.specs.declared.entry.Entry.{Entry}
-use Rattle.hive_pump.specs.Written.{AppendsPrefix}
 use Rattle.text_model.specs.Timeline.{timeline}
 use Rattle.text_model.specs.Whole.{Ending as Last}
-use Rattle.hive_top.proofs.DueLaws.{answered, failed-cause, input-cause, not-calm, output-cause, prefix-whole}
+use Rattle.hive_top.proofs.DueLaws.{answered, failed-cause, input-cause, not-calm, output-cause}
 use Rattle.hive_top.proofs.Journals.{journal-told, out-of}
 use Rattle.hive_top.proofs.Runs.{completed}
 use Rattle.hive_top.specs.Answer.{CanRise, file_job, named_job, rose}
 use Rattle.hive_top.specs.Called.{Called, IsAnswered}
-use Rattle.hive_top.specs.Journals.{HasRun, IsJournalOf, JournalOf, JournalOfBulk, JournalOfFile, JournalOfRead, JournalOfVerb, TellsJournal}
+use Rattle.hive_top.specs.Journals.{HasRun, IsJournalOf, JournalOf, JournalOfRead, JournalOfVerb, TellsJournal}
 use Rattle.hive_top.specs.RunsTo.{JournalBy}
 use Rattle.hive_top.specs.Status.{IsWhole}
 use Rattle.hive_top.specs.Traces.{Follows, IsTraced, MayTrace}
@@ -170,7 +169,7 @@ module _ (got got' : Option (List ℕ)) (k k' t t' : ℕ) (before after : Status
       JournalOfVerb verb name files rest now shelf (out-of got got' k k' after) journal
   verb-after (Run how) name files rest now true h = h
   verb-after (Run how) name files rest now false h =
-      record { read = h.read; told = h.told; is = read-after how.slots how.brief rest now h.read h.is }
+      record { read = h.read; told = h.told; is = read-after how.concurrency.slots how.brief rest now h.read h.is }
   verb-after Check name files rest now shelf h = h
 
   command-after : (command : Command) (name : List ℕ) (files : Option Files) (rest now : Option (List ℕ)) (shelf : Bool) →
@@ -178,8 +177,8 @@ module _ (got got' : Option (List ℕ)) (k k' t t' : ℕ) (before after : Status
       JournalOf command name files rest now shelf (out-of got got' k k' after) journal
   command-after (OnFile verb) name files rest now shelf h = verb-after verb name files rest now shelf h
   command-after (Generate text) name files rest now shelf h = h
-  command-after (Bulk input slots) name files rest now shelf h =
-      record { now = h.now; is = read-after slots true (Some (records_text input.start input.events)) h.now (file_job options_text) h.is }
+  command-after (Bulk input concurrency) name files rest now shelf h =
+      record { now = h.now; is = read-after concurrency.slots true (Some (records_text input.start input.events)) h.now (file_job options_text) h.is }
 
   pub journal-after : (words : List (List ℕ)) (files : Option Files) (rest now : Option (List ℕ)) (f f' : ℕ) →
       TellsJournal words files rest now f f' (out-of got got' k k' before) journal →
@@ -208,7 +207,7 @@ module _ (words : List (List ℕ)) (files : Option Files) (rest now got got' : O
     (journal : List Entry) (is_whole : IsWhole ended) (some : journal ≢ []) where
   of-read : (how : How) → command_of words ≡ Some (OnFile (Run how)) → how.timeline ≡ true → (read : Result Job Stop) →
       IfSome (named_job (file_of words) files) (λ it. read ≡ it) →
-      JournalOfRead how.slots how.brief rest now (out-of got got' k k' ended) journal read → MayTrace words files rest journal
+      JournalOfRead how.concurrency.slots how.brief rest now (out-of got got' k k' ended) journal read → MayTrace words files rest journal
   of-read how is wanted (Err it) told h = absurd (some h)
   of-read how is wanted (Ok job) told h = by h.last refl (h.ends is_whole)
     where
@@ -228,7 +227,7 @@ module _ (words : List (List ℕ)) (files : Option Files) (rest now got got' : O
         given = h.given;
         last = last;
         read = rw (← e) h.read;
-        complete = complete-of job how.slots h.given journal ended is_whole h.run;
+        complete = complete-of job how.concurrency.slots h.given journal ended is_whole h.run;
       }
 
   of-command : (command : Option Command) → command_of words ≡ command → calls_trace command ≡ true → (shelf : Bool) →
@@ -236,7 +235,7 @@ module _ (words : List (List ℕ)) (files : Option Files) (rest now got got' : O
       MayTrace words files rest journal
   of-command None is asked shelf h = absurd cc
   of-command (Some (Generate text)) is asked shelf h = absurd cc
-  of-command (Some (Bulk input slots)) is asked shelf h = absurd cc
+  of-command (Some (Bulk input concurrency)) is asked shelf h = absurd cc
   of-command (Some (OnFile Check)) is asked shelf h = absurd cc
   of-command (Some (OnFile (Run how))) is asked true h = absurd (some h)
   of-command (Some (OnFile (Run how))) is asked false h = of-read how is asked h.read h.told h.is

@@ -1,6 +1,6 @@
 -- What a call owes where files and source tell what they hold: a text, and the status that goes with it. The causes stand in
 -- the order words, files, options, and then the input; a failure of the files or the source takes the place of what follows it.
--- Neither the number of slots nor whether the journal is asked for has a part in it.
+-- Neither how much is done at once nor whether the journal is asked for has a part in it.
 use Rattle.std.specs.Prelude.{◌≡◌, ℕ, ◌-◌, ◌^◌, ◌<◌, nat_eq, nat_le, Bool, true, false, not, if◌then◌else◌, List, length, MatchOption, Option, None, Result, Ok, Err, IfSome}
 use Rattle.std.specs.Io.KnownBytes.{Consumes}
 use Rattle.std.specs.Option.{option_and_then, option_map, option_map_or}
@@ -99,7 +99,7 @@ abbrev pub IsDueOf :
     Command → List ℕ → Option Files → Option (List ℕ) → Option (List ℕ) → Bool → Bool → Answer → Type 0
 IsDueOf (OnFile verb) name files rest now shelf source a = IsDueOfName verb name files rest now shelf source a
 IsDueOf (Generate text) name files rest now shelf source a = a ≡ generated text
-IsDueOf (Bulk input slots) name files rest now shelf source a = a ≡ bulk_answer input (file_job options_text)
+IsDueOf (Bulk input concurrency) name files rest now shelf source a = a ≡ bulk_answer input (file_job options_text)
 
 -- The answer that is due, where this is true of files and source. What isn't told leaves it open.
 pub record IsDue (words : List (List ℕ)) (files : Option Files) (rest now : Option (List ℕ)) (shelf source : Bool)

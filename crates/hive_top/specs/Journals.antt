@@ -63,7 +63,7 @@ abbrev pub JournalOfVerb :
     Verb → List ℕ → Option Files → Option (List ℕ) → Option (List ℕ) → Bool → Output → List Entry → Type 0
 JournalOfVerb (Run how) name files rest now true out journal = journal ≡ []
 JournalOfVerb (Run how) name files rest now false out journal =
-    JournalOfFile how.slots how.brief name files rest now out journal
+    JournalOfFile how.concurrency.slots how.brief name files rest now out journal
 JournalOfVerb Check name files rest now shelf out journal = journal ≡ []
 
 -- the generated records are read to some place
@@ -75,7 +75,8 @@ abbrev pub JournalOf :
     Command → List ℕ → Option Files → Option (List ℕ) → Option (List ℕ) → Bool → Output → List Entry → Type 0
 JournalOf (OnFile verb) name files rest now shelf out journal = JournalOfVerb verb name files rest now shelf out journal
 JournalOf (Generate text) name files rest now shelf out journal = journal ≡ []
-JournalOf (Bulk input slots) name files rest now shelf out journal = JournalOfBulk input slots out journal
+JournalOf (Bulk input concurrency) name files rest now shelf out journal =
+    JournalOfBulk input concurrency.slots out journal
 
 pub record IsJournalOf (words : List (List ℕ)) (files : Option Files) (rest now : Option (List ℕ)) (shelf : Bool)
     (out : Output) (journal : List Entry) : Type 0 where

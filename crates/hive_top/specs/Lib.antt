@@ -4,8 +4,9 @@ pub mod Stopped
 pub mod JobLine
 pub mod Answer
 pub mod Called
+pub mod Tasks
 pub mod RunsTo
-pub mod Works
 pub mod Journals
 pub mod Bulk
 pub mod Traces
+pub mod Ran

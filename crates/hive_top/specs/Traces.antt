@@ -31,7 +31,7 @@ pub record MayTrace (words : List (List ℕ)) (files : Option Files) (rest : Opt
   pub given : List EventRecord
   pub last : Last
   pub read : IsRead job rest now given (Some last)
-  pub complete : IsCompleteRun job how.slots given journal
+  pub complete : IsCompleteRun job how.concurrency.slots given journal
 
 -- the text of the journal was written, or a prefix of it where the call was broken off
 abbrev pub IsTraced : Status → Option (List ℕ) → Option (List ℕ) → List Entry → Type 0

@@ -1,24 +1,25 @@
 -- The written forms of the words:
---   run FILE [--slots N] [--timeline] [--brief]
+--   run FILE [--workers N] [--slots N] [--timeline] [--brief]
 --   check FILE
 --   gen options
 --   gen records START EVENTS
---   bulk START EVENTS [--slots N]
+--   bulk START EVENTS [--workers N] [--slots N]
 -- FILE isn't empty and doesn't begin with `--`. The options stand in this order, each at most once. A number is in decimal, with no
 -- zero before other digits.
 use Rattle.std.specs.Prelude.{codes, ℕ, ◌-◌, ◌^◌, ◌≤◌, nat_le, Bool, true, false, not, ◌&&◌, if◌then◌else◌, List, [], ◌∷◌, take, Option, Some, None}
 use Rattle.std.specs.Option.{option_and_then, option_map}
 use Rattle.hive_model.specs.Same.{same_text}
 use Rattle.hive_model.specs.declared.limits.TheConstants.{MOST_SLOTS}
+use Rattle.hall_loop.specs.declared.limits.TheConstants.{MOST_WORKERS}
 use Rattle.text_model.specs.Numerals.{canonical_below}
 use Rattle.text_model.specs.declared.limits.TheConstants.{MOST_EVENTS}
 use Rattle.hive_top.specs.declared.commands.Command.{Command}
 use Rattle.hive_top.specs.declared.commands.Command.TheVariants.{OnFile, Generate, Bulk}
-use Rattle.hive_top.specs.declared.commands.Generated.{Generated}
+use Rattle.hive_top.specs.declared.commands.Concurrency.{Concurrency}
 use Rattle.hive_top.specs.declared.commands.Generated.TheVariants as generated
 use Rattle.hive_top.specs.declared.commands.How.{How}
 use Rattle.hive_top.specs.declared.commands.Input.{Input}
-use Rattle.hive_top.specs.declared.commands.TheConstants.{DEFAULT_SLOTS}
+use Rattle.hive_top.specs.declared.commands.TheConstants.{DEFAULT_SLOTS, DEFAULT_WORKERS}
 use Rattle.hive_top.specs.declared.commands.Verb.{Verb}
 use Rattle.hive_top.specs.declared.commands.Verb.TheVariants.{Run, Check}
 
@@ -43,13 +44,27 @@ number_in low high word = option_and_then (within low high) (canonical_below (2 
 
 -- options, each with the words behind it
 
-abbrev pub slots_value : List (List ℕ) → Option (ℕ × List (List ℕ))
-slots_value [] = None
-slots_value (word ∷ words) = option_map (λ n. (n, words)) (number_in 1 MOST_SLOTS word)
+abbrev pub number_first : ℕ → ℕ → List (List ℕ) → Option (ℕ × List (List ℕ))
+number_first low high [] = None
+number_first low high (word ∷ words) = option_map (λ n. (n, words)) (number_in low high word)
 
-unfoldable pub slots_first : List (List ℕ) → Option (ℕ × List (List ℕ))
-slots_first [] = Some (DEFAULT_SLOTS, [])
-slots_first (word ∷ words) = if same_text word (codes "--slots") then slots_value words else Some (DEFAULT_SLOTS, word ∷ words)
+-- an option of that name with its number, or its default
+unfoldable pub option_first : List ℕ → ℕ → ℕ → ℕ → List (List ℕ) → Option (ℕ × List (List ℕ))
+option_first name low high default [] = Some (default, [])
+option_first name low high default (word ∷ words) =
+    if same_text word name then number_first low high words else Some (default, word ∷ words)
+
+abbrev pub workers_first : List (List ℕ) → Option (ℕ × List (List ℕ))
+workers_first words = option_first (codes "--workers") 0 MOST_WORKERS DEFAULT_WORKERS words
+
+abbrev pub slots_first : List (List ℕ) → Option (ℕ × List (List ℕ))
+slots_first words = option_first (codes "--slots") 1 MOST_SLOTS DEFAULT_SLOTS words
+
+abbrev pub with_slots : ℕ → Option (ℕ × List (List ℕ)) → Option (Concurrency × List (List ℕ))
+with_slots workers slots = option_map (λ it. (record { workers = workers; slots = it.0 }, it.1)) slots
+
+unfoldable pub concurrency_first : List (List ℕ) → Option (Concurrency × List (List ℕ))
+concurrency_first words = option_and_then (λ it. with_slots it.0 (slots_first it.1)) (workers_first words)
 
 -- whether a word stands first, and what stands behind it
 unfoldable pub flag_first : List ℕ → List (List ℕ) → Bool × List (List ℕ)
@@ -62,17 +77,18 @@ where_none (word ∷ words) it = None
 
 -- commands, by the words behind their names
 
-abbrev pub with_brief : ℕ → Bool → Bool × List (List ℕ) → Option How
-with_brief slots timeline it = where_none it.1 (record { slots = slots; timeline = timeline; brief = it.0 })
+abbrev pub with_brief : Concurrency → Bool → Bool × List (List ℕ) → Option How
+with_brief concurrency timeline it =
+    where_none it.1 (record { concurrency = concurrency; timeline = timeline; brief = it.0 })
 
-abbrev pub with_timeline : ℕ → Bool × List (List ℕ) → Option How
-with_timeline slots it = with_brief slots it.0 (flag_first (codes "--brief") it.1)
+abbrev pub with_timeline : Concurrency → Bool × List (List ℕ) → Option How
+with_timeline concurrency it = with_brief concurrency it.0 (flag_first (codes "--brief") it.1)
 
-abbrev pub with_flags : ℕ × List (List ℕ) → Option How
+abbrev pub with_flags : Concurrency × List (List ℕ) → Option How
 with_flags it = with_timeline it.0 (flag_first (codes "--timeline") it.1)
 
 unfoldable pub how_of : List (List ℕ) → Option How
-how_of words = option_and_then with_flags (slots_first words)
+how_of words = option_and_then with_flags (concurrency_first words)
 
 unfoldable pub run_of : List (List ℕ) → Option Command
 run_of [] = None
@@ -100,11 +116,11 @@ gen_of (word ∷ words) =
     if same_text word (codes "options") then where_none words (Generate generated.Options)
     else if same_text word (codes "records") then records_of_words words else None
 
-abbrev pub bulk_with : Input → Option (ℕ × List (List ℕ)) → Option Command
-bulk_with input slots = option_and_then (λ it. where_none it.1 (Bulk input it.0)) slots
+abbrev pub bulk_with : Input → Option (Concurrency × List (List ℕ)) → Option Command
+bulk_with input concurrency = option_and_then (λ it. where_none it.1 (Bulk input it.0)) concurrency
 
 unfoldable pub bulk_of : List (List ℕ) → Option Command
-bulk_of words = option_and_then (λ it. bulk_with it.0 (slots_first it.1)) (input_first words)
+bulk_of words = option_and_then (λ it. bulk_with it.0 (concurrency_first it.1)) (input_first words)
 
 -- what the words ask for
 unfoldable pub command_of : List (List ℕ) → Option Command
@@ -123,18 +139,18 @@ file_of (word ∷ file ∷ words) = file
 
 -- what holds of the numbers in a command
 
-abbrev pub IsSlots : ℕ → Type 0
-IsSlots n = (1 ≤ n) × (n ≤ MOST_SLOTS)
+abbrev pub IsPossible : Concurrency → Type 0
+IsPossible it = (it.workers ≤ MOST_WORKERS) × (1 ≤ it.slots) × (it.slots ≤ MOST_SLOTS)
 
-abbrev pub HasSlots : Verb → Type 0
-HasSlots (Run how) = IsSlots how.slots
-HasSlots Check = Unit {0}
+abbrev pub IsPossibleFor : Verb → Type 0
+IsPossibleFor (Run how) = IsPossible how.concurrency
+IsPossibleFor Check = Unit {0}
 
 abbrev pub IsWithin : Command → Type 0
-IsWithin (OnFile verb) = HasSlots verb
+IsWithin (OnFile verb) = IsPossibleFor verb
 IsWithin (Generate generated.Options) = Unit {0}
 IsWithin (Generate (generated.Records input)) = input.events ≤ MOST_EVENTS
-IsWithin (Bulk input slots) = (input.events ≤ MOST_EVENTS) × IsSlots slots
+IsWithin (Bulk input concurrency) = (input.events ≤ MOST_EVENTS) × IsPossible concurrency
 
 -- which commands call the files, and which the trace
 

@@ -1,13 +1,26 @@
 //! What a command line asks for (docs/FORMATS.md, "Words").
 
+/// How many workers perform algorithms, where the words don't say.
+pub const DEFAULT_WORKERS: u8 = 4;
+
 /// How many events are in flight at once, where the words don't say.
 pub const DEFAULT_SLOTS: u8 = 4;
+
+/// How much of a run is done at once.
+#[derive(Clone, Copy, Debug, PartialEq, Eq)]
+pub struct Concurrency {
+    /// How many workers perform algorithms beside the thread that reads and writes, from 0 to
+    /// [`hall_loop::MOST_WORKERS`].
+    pub workers: u8,
+    /// How many events are in flight at once, from 1 to [`hive_model::MOST_SLOTS`].
+    pub slots: u8,
+}
 
 /// How a job is run.
 #[derive(Clone, Copy, Debug, PartialEq, Eq)]
 pub struct How {
-    /// How many events are in flight at once, from 1 to [`hive_model::MOST_SLOTS`].
-    pub slots: u8,
+    /// How much of it is done at once.
+    pub concurrency: Concurrency,
     /// Whether the journal is written to the trace.
     pub timeline: bool,
     /// Whether the last line alone is written.
@@ -48,6 +61,6 @@ pub enum Command {
     OnFile(Verb),
     /// A generated text is written.
     Generate(Generated),
-    /// Generated records are run through the generated job, with so many slots, and the last line is written.
-    Bulk(Input, u8),
+    /// Generated records are run through the generated job, and the last line is written.
+    Bulk(Input, Concurrency),
 }

@@ -1,8 +1,9 @@
 //! The calls that a program makes: from the words of its command line, its files and its input to the
 //! bytes that it writes and the status with which it ends.
 //!
-//! [`hive_plain`] is the whole program but for the real files and streams. It is generic over the
-//! traits of `hive_edge`, so a test hands it files and streams in memory.
+//! [`hive`] is the whole program but for the real files and streams, with workers, and [`hive_plain`] the same on one
+//! thread. What both owe is one relation, `IsRan`. They are generic over the traits of `hive_edge`, so a test hands them
+//! files and streams in memory.
 #![tactic(auto)]
 
 mod commands;
@@ -14,11 +15,14 @@ mod ran;
 mod run;
 mod status;
 mod stop;
+mod task;
 mod top;
 mod trace;
 mod words;
 
-pub use commands::{Command, DEFAULT_SLOTS, Generated, How, Input, Verb};
+pub use commands::{
+    Command, Concurrency, DEFAULT_SLOTS, DEFAULT_WORKERS, Generated, How, Input, Verb,
+};
 pub use ran::Ran;
 pub use status::Status;
-pub use top::hive_plain;
+pub use top::{hive, hive_plain};

@@ -1,63 +1,54 @@
-//! The run of a job.
-ghost use Rattle.std.specs.Prelude.{◌≡◌, ℕ, List};
-ghost use Rattle.std.specs.Io.KnownBytes.{Keeps};
-ghost use Rattle.hive_edge.specs.Fault.{Rose};
-ghost use Rattle.event_laws.specs.Uncut.{HasNoCut};
-ghost use Rattle.hive_model.specs.Valid.{IsValidJob};
-ghost use Rattle.hive_pump.specs.Written.{MayWrite};
-ghost use Rattle.hive_top.specs.RunsTo.{Flushes, RunsTo, status_by};
-ghost use Rattle.hive_top.specs.Words.{IsSlots};
+//! How a run ends.
+ghost use Rattle.std.specs.Prelude.{◌≡◌};
+ghost use Rattle.hive_top.specs.Bulk.{WroteLine};
+ghost use Rattle.hive_top.specs.RunsTo.{Flushes, status_by};
+ghost use Rattle.hive_top.specs.Status.{IsWhole};
 
-use crate::commands::How;
-use crate::ran::{Ran, without_run};
+use crate::lines::put_line;
+use crate::ran::Ran;
 use crate::status::Status;
-use hive_edge::{Sink, Source};
-use hive_model::Job;
-use hive_pump::{Ending, Plan, pump_plain};
+use hive_edge::Sink;
+use hive_pump::{Ending, Pumped};
 use report_text::Counts;
-use std::alloc::Global;
-use std::sync::Arc;
 
-// Events are run on this thread.
-pub(crate) fn plan_of(slots: u8, brief: bool) -> Plan
-    ensures slots { result.slots ≡ slots }
-    ensures brief { result.brief ≡ brief }
+/// What a run came to, after the sink was flushed where nothing broke the run off.
+pub fn end_run<K: Sink>(pumped: Pumped, sink: &mut K) -> Ran
+    ensures flushed { Flushes (K.got sink.old) (K.got sink.new) (K.faults sink.old) (K.faults sink.new)
+        (status_by pumped.ending pumped.counts) result.status }
+    ensures journal { result.journal.items ≡ pumped.journal.items }
 {
-    Plan {
-        slots,
-        workers: 0,
-        brief,
-    }
-}
-
-/// Runs a job on the records of the source as the words say, and flushes the sink where nothing broke the run off.
-pub fn run<S: Source, K: Sink>(
-    alloc: Global,
-    job: Job,
-    how: How,
-    source: &mut S,
-    sink: &mut K,
-) -> Ran
-    requires valid { IsValidJob job }
-    requires uncut { HasNoCut job }
-    requires slots { IsSlots how.slots }
-    requires room { (text : List ℕ) → MayWrite job how.brief (S.rest source.old) text → K.admits sink.old text }
-    ensures { RunsTo job how.slots how.brief (S.rest source.old) (S.rest source.new) (K.got sink.old) (K.got sink.new)
-        (S.faults source.old) (S.faults source.new) (K.faults sink.old) (K.faults sink.new)
-        result.status result.journal.items }
-{
-    let Ok(job) = Arc::new(alloc, job) else {
-        return without_run(alloc, Status::NoMemory);
-    };
-    let plan = plan_of(how.slots, how.brief);
-    let pumped = pump_plain(alloc, job, &plan, source, sink);
     Ran {
         status: flush(sink, status_of(pumped.ending, &pumped.counts)),
         journal: pumped.journal,
     }
 }
 
-pub(crate) fn status_of(ending: Ending, counts: &Counts) -> Status
+/// What a run in memory came to, after its line was written.
+pub fn end_generated<K: Sink>(pumped: Pumped, line: &[u8], sink: &mut K) -> Ran
+    requires room { IsWhole (status_by pumped.ending pumped.counts) → K.admits sink.old line.now }
+    ensures wrote { WroteLine line.now (status_by pumped.ending pumped.counts) result.status
+        (K.got sink.old) (K.got sink.new) (K.faults sink.old) (K.faults sink.new) }
+    ensures journal { result.journal.items ≡ pumped.journal.items }
+{
+    Ran {
+        status: put_whole(sink, line, status_of(pumped.ending, &pumped.counts)),
+        journal: pumped.journal,
+    }
+}
+
+// Writes the line of a run that ended so. A line that memory had no room for is want of memory.
+fn put_whole<K: Sink>(sink: &mut K, line: &[u8], status: Status) -> Status
+    requires room { IsWhole status → K.admits sink.old line.now }
+    ensures { WroteLine line.now status result (K.got sink.old) (K.got sink.new) (K.faults sink.old) (K.faults sink.new) }
+{
+    match status {
+        Status::Output => Status::NoMemory,
+        Status::NoMemory => Status::NoMemory,
+        _ => put_line(sink, line, status),
+    }
+}
+
+fn status_of(ending: Ending, counts: &Counts) -> Status
     ensures { result ≡ status_by ending counts.now }
 {
     match ending {

@@ -1,30 +1,23 @@
-//! The top call.
-ghost use Rattle.std.specs.Prelude.{◌≡◌, ◌≢◌, ◌⊎◌, Bool, None, Option, Some, List, ℕ, IfSome, false, true};
-ghost use Rattle.hive_edge.specs.Fault.{Calm, Rose};
-ghost use Rattle.event_laws.specs.Uncut.{HasNoCut};
+//! The top calls.
+ghost use Rattle.std.specs.Prelude.{◌≡◌, IfSome};
 ghost use Rattle.hive_model.specs.Same.{texts};
-ghost use Rattle.hive_model.specs.Valid.{IsValidJob};
-ghost use Rattle.hive_model.specs.declared.entry.Entry.{Entry as JournalEntry};
-ghost use Rattle.text_model.specs.Timeline.{timeline};
-ghost use Rattle.hive_top.specs.Answer.{Answer, CanRise, IsDue, rose};
-ghost use Rattle.hive_top.specs.Called.{Called, IsAnswered, IsBrokenOff, MayRead};
-ghost use Rattle.hive_top.specs.Journals.{IsJournalOf, TellsJournal};
-ghost use Rattle.hive_top.specs.Traces.{IsTraced, MayTrace};
-ghost use Rattle.hive_top.specs.Words.{HasSlots, IsWithin, calls_files, calls_trace, command_of, file_of as second_word};
-ghost use Rattle.hive_top.specs.Works.{MayWork, WorksTo};
+ghost use Rattle.hive_top.specs.Ran.{HasRoom, HasTraceRoom, IsCalled, IsRan};
+ghost use Rattle.hive_top.specs.Tasks.{HasFile};
+ghost use Rattle.hive_top.specs.Words.{IsWithin, command_of};
 
-use crate::commands::{Command, Verb};
-use crate::generate::{bulk, generate};
-use crate::job::job_named;
-use crate::lines::{put, put_job, put_line};
+use crate::commands::Command;
+use crate::lines::tell;
 use crate::ran::{Ran, without_run};
-use crate::run::run;
-use crate::status::Status;
+use crate::run::{end_generated, end_run};
+use crate::task::{GeneratedRun, Task, task_of};
 use crate::trace::trace_run;
-use crate::words::{command, file_of};
+use crate::words::command;
 use hive_edge::{Shelf, Sink, Source};
-use hive_model::Job;
+use hive_pump::{pump, pump_plain};
+use hive_workers::Gate;
 use std::alloc::Global;
+use std::sync::Wait;
+use std::thread::Threads;
 
 /// Runs the words of a command line over the files, the source, the sink and the trace.
 ///
@@ -35,9 +28,36 @@ use std::alloc::Global;
 /// generated text, and `bulk` runs generated records. The causes of a status stand in the order words, shelf, options,
 /// and then the input; a failure of the sink or of the trace counts before all of them.
 ///
+/// As many workers as the words say perform algorithms, each on a thread of its own, and so does this thread where it can't
+/// admit a record; with none it performs all. `gate` is told of each execution by the thread that performs it.
+///
 /// The text that is due is told by `IsDue`, of the words and of what the files and the source tell, where a count of
 /// failures that rose counts before that: where memory sufficed and no count stands at its last value, the sink got
-/// exactly this text, and the status is the one that goes with it.
+/// exactly this text, and the status is the one that goes with it, for every number of workers, whichever of them was
+/// quicker. This is said of a call that returns: with workers it may wait, and that it returns isn't said.
+pub fn hive<R: Threads + Wait + Sync, F: Shelf, S: Source, K: Sink, T: Sink, G: Gate>(
+    rt: &R,
+    alloc: Global,
+    words: &[&str],
+    shelf: &mut F,
+    source: &mut S,
+    sink: &mut K,
+    trace: &mut T,
+    gate: &G,
+) -> Ran
+    requires files { HasFile (texts words.now) (F.has shelf.old) }
+    requires room { HasRoom (texts words.now) (F.files shelf.old) (S.rest source.old) (K.admits sink.old) }
+    requires trace_room { HasTraceRoom (texts words.now) (F.files shelf.old) (S.rest source.old) (T.admits trace.old) }
+    ensures { IsRan F.files F.faults S.rest S.faults K.got K.faults T.got T.faults (texts words.now) shelf.old shelf.new
+        source.old source.new sink.old sink.new trace.old trace.new result.status result.journal.items }
+{
+    let asked = command(words);
+    let ran = call(rt, alloc, asked, words, shelf, source, sink, gate);
+    trace_run(alloc, asked, ran, trace)
+}
+
+/// Does what [`hive`] does, on this thread alone: it reads the number of workers and starts none. It waits for nobody
+/// and always returns.
 pub fn hive_plain<F: Shelf, S: Source, K: Sink, T: Sink>(
     alloc: Global,
     words: &[&str],
@@ -46,69 +66,56 @@ pub fn hive_plain<F: Shelf, S: Source, K: Sink, T: Sink>(
     sink: &mut K,
     trace: &mut T,
 ) -> Ran
-    requires files { (verb : Verb) → command_of (texts words.now) ≡ Some (Command.OnFile verb)
-        → F.has shelf.old (second_word (texts words.now)) }
-    requires room { (rest : Option (List ℕ)) (shelf_failed source_failed : Bool) (a : Answer)
-        → IsDue (texts words.now) (F.files shelf.old) (S.rest source.old) rest shelf_failed source_failed a
-        → K.admits sink.old a.text }
-    requires trace_room { (journal : List JournalEntry)
-        → MayTrace (texts words.now) (F.files shelf.old) (S.rest source.old) journal
-        → T.admits trace.old (timeline journal) }
-
-    // The text that is due, where the sink did not fail and memory sufficed, and its status, where the trace didn't fail.
-    ensures answer { CanRise (F.faults shelf.new) → CanRise (S.faults source.new)
-        → Calm (K.faults sink.old) (K.faults sink.new) → result.status ≢ Status.NoMemory
-        → IsAnswered (texts words.now) (F.files shelf.old) (S.rest source.old) (S.rest source.new)
-        (rose (F.faults shelf.old) (F.faults shelf.new)) (rose (S.faults source.old) (S.faults source.new))
-        (K.got sink.old) (K.got sink.new) (T.faults trace.old) (T.faults trace.new) result.status }
-
-    // In any case a prefix of it.
-    ensures prefix { CanRise (F.faults shelf.new) → CanRise (S.faults source.new)
-        → IsBrokenOff (texts words.now) (F.files shelf.old) (S.rest source.old) (S.rest source.new)
-        (rose (F.faults shelf.old) (F.faults shelf.new)) (rose (S.faults source.old) (S.faults source.new))
-        (K.got sink.old) (K.got sink.new) }
-
-    // The causes of the statuses.
-    ensures words { result.status ≡ Status.Words → command_of (texts words.now) ≡ None }
-    ensures wrong_words { command_of (texts words.now) ≡ None
-        → (result.status ≡ Status.Words) ⊎ (result.status ≡ Status.Output) }
-    ensures input { result.status ≡ Status.Input
-        → Rose (F.faults shelf.old) (F.faults shelf.new) ⊎ Rose (S.faults source.old) (S.faults source.new) }
-    ensures output { result.status ≡ Status.Output
-        → Rose (K.faults sink.old) (K.faults sink.new) ⊎ Rose (T.faults trace.old) (T.faults trace.new) }
-    ensures failed { (K.faults sink.new ≢ K.faults sink.old) ⊎ (T.faults trace.new ≢ T.faults trace.old)
-        → result.status ≢ Status.NoMemory → result.status ≡ Status.Output }
-
-    // The files are touched only for `run` and `check`, and the source only where a job was read.
-    ensures untouched_files { calls_files (command_of (texts words.now)) ≡ false → shelf.new ≡ shelf.old }
-    ensures untouched_source { (source.new ≡ source.old)
-        ⊎ MayRead (texts words.now) (F.files shelf.old) (F.faults shelf.old) (F.faults shelf.new) }
-
-    // The trace got the text of the journal, where the words ask for that.
-    ensures untouched_trace { calls_trace (command_of (texts words.now)) ≡ false → trace.new ≡ trace.old }
-    ensures timeline { calls_trace (command_of (texts words.now)) ≡ true
-        → IsTraced result.status (T.got trace.old) (T.got trace.new) result.journal.items }
-
-    // The journal is empty where no job was run, and else a run over the records that were read: a complete one where
-    // memory sufficed.
-    ensures journal { CanRise (F.faults shelf.new)
-        → IsJournalOf (texts words.now) (F.files shelf.old) (S.rest source.old) (S.rest source.new)
-        (rose (F.faults shelf.old) (F.faults shelf.new))
-        (record {
-          got = K.got sink.old;
-          got_now = K.got sink.new;
-          count = K.faults sink.old;
-          count_now = K.faults sink.new;
-          ended = result.status;
-        }) result.journal.items }
+    requires files { HasFile (texts words.now) (F.has shelf.old) }
+    requires room { HasRoom (texts words.now) (F.files shelf.old) (S.rest source.old) (K.admits sink.old) }
+    requires trace_room { HasTraceRoom (texts words.now) (F.files shelf.old) (S.rest source.old) (T.admits trace.old) }
+    ensures { IsRan F.files F.faults S.rest S.faults K.got K.faults T.got T.faults (texts words.now) shelf.old shelf.new
+        source.old source.new sink.old sink.new trace.old trace.new result.status result.journal.items }
 {
     let asked = command(words);
-    let ran = call(alloc, asked, words, shelf, source, sink);
+    let ran = call_plain(alloc, asked, words, shelf, source, sink);
     trace_run(alloc, asked, ran, trace)
 }
 
-// The call but for the trace, and what it comes to.
-fn call<F: Shelf, S: Source, K: Sink>(
+// The call with workers, but for the trace, and what it comes to. It differs from the one below by what runs a job.
+fn call<R: Threads + Wait + Sync, F: Shelf, S: Source, K: Sink, G: Gate>(
+    rt: &R,
+    alloc: Global,
+    asked: Option<Command>,
+    words: &[&str],
+    shelf: &mut F,
+    source: &mut S,
+    sink: &mut K,
+    gate: &G,
+) -> Ran
+    requires asked { asked ≡ command_of (texts words.now) }
+    requires within { IfSome asked IsWithin }
+    requires files { HasFile (texts words.now) (F.has shelf.old) }
+    requires room { HasRoom (texts words.now) (F.files shelf.old) (S.rest source.old) (K.admits sink.old) }
+    ensures { IsCalled F.files F.faults S.rest S.faults K.got K.faults (texts words.now) shelf.old shelf.new source.old source.new
+        sink.old sink.new result.status result.journal.items }
+{
+    match task_of(alloc, asked, words, shelf) {
+        Task::Run(job, plan) => {
+            let pumped = pump(rt, alloc, job, &plan, source, sink, gate);
+            end_run(pumped, sink)
+        }
+        Task::RunGenerated(run) => {
+            let GeneratedRun {
+                job,
+                plan,
+                mut records,
+                mut line,
+            } = run;
+            let pumped = pump(rt, alloc, job, &plan, &mut records, &mut line, gate);
+            end_generated(pumped, line.got(), sink)
+        }
+        Task::Write(notice) => without_run(alloc, tell(alloc, notice, sink)),
+    }
+}
+
+// The call on this thread alone.
+fn call_plain<F: Shelf, S: Source, K: Sink>(
     alloc: Global,
     asked: Option<Command>,
     words: &[&str],
@@ -118,133 +125,26 @@ fn call<F: Shelf, S: Source, K: Sink>(
 ) -> Ran
     requires asked { asked ≡ command_of (texts words.now) }
     requires within { IfSome asked IsWithin }
-    requires files { (verb : Verb) → command_of (texts words.now) ≡ Some (Command.OnFile verb)
-        → F.has shelf.old (second_word (texts words.now)) }
-    requires room { (rest : Option (List ℕ)) (shelf_failed source_failed : Bool) (a : Answer)
-        → IsDue (texts words.now) (F.files shelf.old) (S.rest source.old) rest shelf_failed source_failed a
-        → K.admits sink.old a.text }
-    ensures called { Called (texts words.now) (F.files shelf.old) (S.rest source.old) (S.rest source.new)
-        (K.got sink.old) (K.got sink.new) (F.faults shelf.old) (F.faults shelf.new)
-        (S.faults source.old) (S.faults source.new) (K.faults sink.old) (K.faults sink.new) result.status }
-    ensures journal { TellsJournal (texts words.now) (F.files shelf.old) (S.rest source.old) (S.rest source.new)
-        (F.faults shelf.old) (F.faults shelf.new)
-        (record {
-          got = K.got sink.old;
-          got_now = K.got sink.new;
-          count = K.faults sink.old;
-          count_now = K.faults sink.new;
-          ended = result.status;
-        }) result.journal.items }
-    ensures words { result.status ≡ Status.Words → command_of (texts words.now) ≡ None }
-    ensures wrong_words { command_of (texts words.now) ≡ None
-        → (result.status ≡ Status.Words) ⊎ (result.status ≡ Status.Output) }
-    ensures untouched_files { calls_files (command_of (texts words.now)) ≡ false → shelf.new ≡ shelf.old }
-    ensures untouched_source { (source.new ≡ source.old)
-        ⊎ MayRead (texts words.now) (F.files shelf.old) (F.faults shelf.old) (F.faults shelf.new) }
+    requires files { HasFile (texts words.now) (F.has shelf.old) }
+    requires room { HasRoom (texts words.now) (F.files shelf.old) (S.rest source.old) (K.admits sink.old) }
+    ensures { IsCalled F.files F.faults S.rest S.faults K.got K.faults (texts words.now) shelf.old shelf.new source.old source.new
+        sink.old sink.new result.status result.journal.items }
 {
-    match asked {
-        None => without_run(alloc, put_line(sink, b"stop words\n", Status::Words)),
-        Some(command) => obey(alloc, command, words, shelf, source, sink),
-    }
-}
-
-// Does what the words ask for.
-fn obey<F: Shelf, S: Source, K: Sink>(
-    alloc: Global,
-    command: Command,
-    words: &[&str],
-    shelf: &mut F,
-    source: &mut S,
-    sink: &mut K,
-) -> Ran
-    requires asked { command_of (texts words.now) ≡ Some command }
-    requires within { IsWithin command }
-    requires files { (verb : Verb) → command_of (texts words.now) ≡ Some (Command.OnFile verb)
-        → F.has shelf.old (second_word (texts words.now)) }
-    requires room { (rest : Option (List ℕ)) (shelf_failed source_failed : Bool) (a : Answer)
-        → IsDue (texts words.now) (F.files shelf.old) (S.rest source.old) rest shelf_failed source_failed a
-        → K.admits sink.old a.text }
-    ensures called { Called (texts words.now) (F.files shelf.old) (S.rest source.old) (S.rest source.new)
-        (K.got sink.old) (K.got sink.new) (F.faults shelf.old) (F.faults shelf.new)
-        (S.faults source.old) (S.faults source.new) (K.faults sink.old) (K.faults sink.new) result.status }
-    ensures journal { TellsJournal (texts words.now) (F.files shelf.old) (S.rest source.old) (S.rest source.new)
-        (F.faults shelf.old) (F.faults shelf.new)
-        (record {
-          got = K.got sink.old;
-          got_now = K.got sink.new;
-          count = K.faults sink.old;
-          count_now = K.faults sink.new;
-          ended = result.status;
-        }) result.journal.items }
-    ensures words { result.status ≢ Status.Words }
-    ensures untouched_files { calls_files (command_of (texts words.now)) ≡ false → shelf.new ≡ shelf.old }
-    ensures untouched_source { (source.new ≡ source.old)
-        ⊎ MayRead (texts words.now) (F.files shelf.old) (F.faults shelf.old) (F.faults shelf.new) }
-{
-    match command {
-        Command::OnFile(verb) => on_file(alloc, verb, words, shelf, source, sink),
-        Command::Generate(text) => without_run(alloc, generate(alloc, text, sink)),
-        Command::Bulk(input, slots) => bulk(alloc, input, slots, sink),
-    }
-}
-
-// Does with the options in FILE what the verb says.
-fn on_file<F: Shelf, S: Source, K: Sink>(
-    alloc: Global,
-    verb: Verb,
-    words: &[&str],
-    shelf: &mut F,
-    source: &mut S,
-    sink: &mut K,
-) -> Ran
-    requires asked { command_of (texts words.now) ≡ Some (Command.OnFile verb) }
-    requires slots { HasSlots verb }
-    requires files { F.has shelf.old (second_word (texts words.now)) }
-    requires room { (rest : Option (List ℕ)) (shelf_failed source_failed : Bool) (a : Answer)
-        → IsDue (texts words.now) (F.files shelf.old) (S.rest source.old) rest shelf_failed source_failed a
-        → K.admits sink.old a.text }
-    ensures called { Called (texts words.now) (F.files shelf.old) (S.rest source.old) (S.rest source.new)
-        (K.got sink.old) (K.got sink.new) (F.faults shelf.old) (F.faults shelf.new)
-        (S.faults source.old) (S.faults source.new) (K.faults sink.old) (K.faults sink.new) result.status }
-    ensures journal { TellsJournal (texts words.now) (F.files shelf.old) (S.rest source.old) (S.rest source.new)
-        (F.faults shelf.old) (F.faults shelf.new)
-        (record {
-          got = K.got sink.old;
-          got_now = K.got sink.new;
-          count = K.faults sink.old;
-          count_now = K.faults sink.new;
-          ended = result.status;
-        }) result.journal.items }
-    ensures words { result.status ≢ Status.Words }
-    ensures untouched_source { (source.new ≡ source.old)
-        ⊎ MayRead (texts words.now) (F.files shelf.old) (F.faults shelf.old) (F.faults shelf.new) }
-{
-    match job_named(alloc, file_of(words), shelf) {
-        Ok(job) => work(alloc, verb, job, source, sink),
-        Err(stop) => without_run(alloc, put(alloc, sink, &stop)),
-    }
-}
-
-// Does with a job what the verb says.
-fn work<S: Source, K: Sink>(
-    alloc: Global,
-    verb: Verb,
-    job: Job,
-    source: &mut S,
-    sink: &mut K,
-) -> Ran
-    requires valid { IsValidJob job }
-    requires uncut { HasNoCut job }
-    requires slots { HasSlots verb }
-    requires room { MayWork verb job (S.rest source.old) (K.admits sink.old) }
-    ensures worked { WorksTo verb job (S.rest source.old) (S.rest source.new) (K.got sink.old) (K.got sink.new)
-        (S.faults source.old) (S.faults source.new) (K.faults sink.old) (K.faults sink.new)
-        result.status result.journal.items }
-    ensures untouched { verb ≡ Verb.Check → source.new ≡ source.old }
-    ensures words { result.status ≢ Status.Words }
-{
-    match verb {
-        Verb::Run(how) => run(alloc, job, how, source, sink),
-        Verb::Check => without_run(alloc, put_job(alloc, sink, &job)),
+    match task_of(alloc, asked, words, shelf) {
+        Task::Run(job, plan) => {
+            let pumped = pump_plain(alloc, job, &plan, source, sink);
+            end_run(pumped, sink)
+        }
+        Task::RunGenerated(run) => {
+            let GeneratedRun {
+                job,
+                plan,
+                mut records,
+                mut line,
+            } = run;
+            let pumped = pump_plain(alloc, job, &plan, &mut records, &mut line);
+            end_generated(pumped, line.got(), sink)
+        }
+        Task::Write(notice) => without_run(alloc, tell(alloc, notice, sink)),
     }
 }

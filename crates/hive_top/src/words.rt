@@ -3,9 +3,12 @@ ghost use Rattle.std.specs.Prelude.{◌≡◌, ◌≤◌, ◌∷◌, IfSome, cod
 ghost use Rattle.std.specs.Option.{option_map};
 ghost use Rattle.hive_model.specs.Same.{texts};
 ghost use Rattle.text_model.specs.declared.limits.TheConstants.{MOST_EVENTS};
-ghost use Rattle.hive_top.specs.Words.{IsSlots, IsWithin, bulk_of, check_of, command_of, file_of as second_word, flag_first, gen_of, how_of, input_first, is_file, is_option as has_dashes, number_in, records_of_words, run_of, slots_first, slots_value, where_none};
+ghost use Rattle.hive_top.specs.Words.{IsPossible, IsWithin, bulk_of, check_of, command_of, concurrency_first, file_of as second_word, flag_first, gen_of, how_of, input_first, is_file, is_option as has_dashes, number_first, number_in, option_first, records_of_words, run_of, where_none};
 
-use crate::commands::{Command, DEFAULT_SLOTS, Generated, How, Input, Verb};
+use crate::commands::{
+    Command, Concurrency, DEFAULT_SLOTS, DEFAULT_WORKERS, Generated, How, Input, Verb,
+};
+use hall_loop::MOST_WORKERS;
 use hive_model::MOST_SLOTS;
 use numerals::number_of;
 use text_model::MOST_EVENTS;
@@ -130,11 +133,11 @@ fn bulk(words: &[&str]) -> Option<Command>
     ensures within { IfSome result IsWithin }
 {
     let (input, rest) = input_first(words)?;
-    let (slots, rest) = slots_first(rest)?;
+    let (concurrency, rest) = concurrency_first(rest)?;
     if !rest.is_empty() {
         return None;
     }
-    Some(Command::Bulk(input, slots))
+    Some(Command::Bulk(input, concurrency))
 }
 
 // START and EVENTS, and the words behind them.
@@ -158,13 +161,13 @@ fn input_first<'a, 'b>(words: &'b [&'a str]) -> Option<(Input, &'b [&'a str])>
 #[tactic(auto, unfolding(crate::specs::Words::how_of))]
 fn how(words: &[&str]) -> Option<How>
     ensures is { result ≡ how_of (texts words.now) }
-    ensures slots { IfSome result (λ how. IsSlots how.slots) }
+    ensures within { IfSome result (λ how. IsPossible how.concurrency) }
 {
-    let (slots, rest) = slots_first(words)?;
+    let (concurrency, rest) = concurrency_first(words)?;
     let (timeline, rest) = flag_first("--timeline", rest);
     let (brief, rest) = flag_first("--brief", rest);
     let how = How {
-        slots,
+        concurrency,
         timeline,
         brief,
     };
@@ -179,31 +182,51 @@ fn alone(how: How, rest: &[&str]) -> Option<How>
     if rest.is_empty() { Some(how) } else { None }
 }
 
-// The number of slots, and the words behind it.
-#[tactic(auto, unfolding(crate::specs::Words::slots_first))]
-fn slots_first<'a, 'b>(words: &'b [&'a str]) -> Option<(u8, &'b [&'a str])>
-    ensures is { option_map (λ it. (it.0, texts it.1.now)) result ≡ slots_first (texts words.now) }
-    ensures slots { IfSome result (λ it. IsSlots it.0) }
+// The numbers of workers and of slots, and the words behind them.
+#[tactic(auto, unfolding(crate::specs::Words::concurrency_first))]
+fn concurrency_first<'a, 'b>(words: &'b [&'a str]) -> Option<(Concurrency, &'b [&'a str])>
+    ensures is { option_map (λ it. (it.0, texts it.1.now)) result ≡ concurrency_first (texts words.now) }
+    ensures within { IfSome result (λ it. IsPossible it.0) }
+{
+    let (workers, rest) = option_first("--workers", 0, MOST_WORKERS, DEFAULT_WORKERS, words)?;
+    let (slots, rest) = option_first("--slots", 1, MOST_SLOTS, DEFAULT_SLOTS, rest)?;
+    Some((Concurrency { workers, slots }, rest))
+}
+
+// The number of an option, or its default where the words don't begin with its name, and the words behind it.
+#[tactic(auto, unfolding(crate::specs::Words::option_first))]
+fn option_first<'a, 'b>(
+    name: &str,
+    low: u8,
+    high: u8,
+    default: u8,
+    words: &'b [&'a str],
+) -> Option<(u8, &'b [&'a str])>
+    requires at_least { low ≤ default }
+    requires at_most { default ≤ high }
+    ensures is { option_map (λ it. (it.0, texts it.1.now)) result ≡ option_first name.now low high default (texts words.now) }
+    ensures within { IfSome result (λ it. (low ≤ it.0) × (it.0 ≤ high)) }
 {
     match words.split_first() {
-        None => Some((DEFAULT_SLOTS, words)),
+        None => Some((default, words)),
         Some((word, rest)) => {
-            if *word == "--slots" {
-                slots_value(rest)
+            if *word == name {
+                number_first(low, high, rest)
             } else {
-                Some((DEFAULT_SLOTS, words))
+                Some((default, words))
             }
         }
     }
 }
 
-fn slots_value<'a, 'b>(words: &'b [&'a str]) -> Option<(u8, &'b [&'a str])>
-    ensures is { option_map (λ it. (it.0, texts it.1.now)) result ≡ slots_value (texts words.now) }
-    ensures slots { IfSome result (λ it. IsSlots it.0) }
+// The number that stands first, and the words behind it.
+fn number_first<'a, 'b>(low: u8, high: u8, words: &'b [&'a str]) -> Option<(u8, &'b [&'a str])>
+    ensures is { option_map (λ it. (it.0, texts it.1.now)) result ≡ number_first low high (texts words.now) }
+    ensures within { IfSome result (λ it. (low ≤ it.0) × (it.0 ≤ high)) }
 {
     match words.split_first() {
         None => None,
-        Some((word, rest)) => match number_in(1, u64::from(MOST_SLOTS), word) {
+        Some((word, rest)) => match number_in(u64::from(low), u64::from(high), word) {
             Some(number) => Some((number as u8, rest)),
             None => None,
         },

@@ -4,8 +4,11 @@ ghost use Rattle.std.specs.Prelude.{◌<◌};
 use crate::case::Case;
 use hive_edge::{MemShelf, MemSink, MemSource};
 use hive_model::Text;
-use hive_top::hive_plain;
+use hive_top::{hive, hive_plain};
+use hive_workers::NoGate;
 use std::alloc::{AllocError, Global};
+use std::sync::Wait;
+use std::thread::Threads;
 
 // The most bytes that a row's call writes.
 const ROOM: usize = 65_536;
@@ -19,32 +22,56 @@ struct Outside {
     trace: MemSink,
 }
 
-/// The exit status of the case's call, and what its sink and its trace got.
-pub(crate) fn written(
+/// What a call came to.
+#[derive(Debug, Drop)]
+pub(crate) struct Shown {
+    /// The exit status.
+    pub(crate) status: u8,
+    /// What the sink got.
+    pub(crate) text: String,
+    /// What the trace got.
+    pub(crate) trace: String,
+}
+
+/// What the case's call comes to, with workers or on this thread.
+pub(crate) fn run_case<R: Threads + Wait + Sync>(
+    rt: &R,
     alloc: Global,
     case: &Case<'_>,
+    with_workers: bool,
     options: Vec<u8>,
-) -> anyhow::Result<(u8, String, String)>
+) -> anyhow::Result<Shown>
     requires piece { 0 < case.now.piece }
     requires takes { 0 < case.now.takes }
 {
     let words: Vec<&str> = case.words.split_whitespace().collect(alloc)?;
     let mut outside = make_outside(alloc, case, options)?;
-    let status = status_of(alloc, words.as_slice(), &mut outside);
+    let status = status_of(rt, alloc, words.as_slice(), with_workers, &mut outside);
     let text = String::from_utf8_lossy(alloc, outside.sink.got())?;
     let trace = String::from_utf8_lossy(alloc, outside.trace.got())?;
-    Ok((status, text, trace))
+    Ok(Shown {
+        status,
+        text,
+        trace,
+    })
 }
 
-fn status_of(alloc: Global, words: &[&str], outside: &mut Outside) -> u8 {
-    let ran = hive_plain(
-        alloc,
-        words,
-        &mut outside.shelf,
-        &mut outside.source,
-        &mut outside.sink,
-        &mut outside.trace,
-    );
+fn status_of<R: Threads + Wait + Sync>(
+    rt: &R,
+    alloc: Global,
+    words: &[&str],
+    with_workers: bool,
+    outside: &mut Outside,
+) -> u8 {
+    let shelf = &mut outside.shelf;
+    let source = &mut outside.source;
+    let sink = &mut outside.sink;
+    let trace = &mut outside.trace;
+    let ran = if with_workers {
+        hive(rt, alloc, words, shelf, source, sink, trace, &NoGate)
+    } else {
+        hive_plain(alloc, words, shelf, source, sink, trace)
+    };
     ran.status.code()
 }
 

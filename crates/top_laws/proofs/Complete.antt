@@ -20,7 +20,8 @@ use Rattle.text_model.specs.declared.record_refusal.RecordRefusal.{RecordRefusal
 use Rattle.hive_top.specs.Answer.{Answer, IsDue, IsDueOfFile, IsDueOfName, bulk_answer, file_job, named_job, run_answer, status_of}
 use Rattle.top_laws.specs.Complete.{IsEnd, counted_answer, failed_of, ok_of, stalled_of}
 use Rattle.hive_top.specs.Words.{command_of, file_of}
-use Rattle.hive_top.specs.declared.commands.Command.TheVariants.{OnFile}
+use Rattle.hive_top.specs.declared.commands.Command.TheVariants.{OnFile, Bulk}
+use Rattle.hive_top.specs.declared.commands.Concurrency.{Concurrency}
 use Rattle.hive_top.specs.declared.commands.How.{How}
 use Rattle.hive_top.specs.declared.commands.Input.{Input}
 use Rattle.hive_top.specs.declared.commands.Verb.TheVariants.{Run}
@@ -112,3 +113,10 @@ same-due words other files rest now shelf source how further a is also file brie
         IsDueOfName (Run further) (file_of words) files rest now s source a
     by true h = h
     by false h = of-told (named_job (file_of words) files) h
+
+pub same-bulk : (words other : List (List ℕ)) (files : Option Files) (rest now : Option (List ℕ)) (shelf source : Bool)
+    (input : Input) (one another : Concurrency) (a : Answer) → command_of words ≡ Some (Bulk input one) →
+    command_of other ≡ Some (Bulk input another) →
+    IsDue words files rest now shelf source a → IsDue other files rest now shelf source a
+same-bulk words other files rest now shelf source input one another a is also due =
+    record { due = rw also (rw is at due.due) }

@@ -14,7 +14,8 @@ ghost use Rattle.text_model.specs.declared.limits.TheConstants.{MOST_EVENTS};
 ghost use Rattle.hive_top.specs.Answer.{Answer, IsDue, bulk_answer, file_job, named_job, run_answer};
 ghost use Rattle.top_laws.specs.Complete.{IsEnd, counted_answer};
 ghost use Rattle.hive_top.specs.Words.{command_of, file_of};
-ghost use Rattle.hive_top.specs.declared.commands.Command.TheVariants.{OnFile};
+ghost use Rattle.hive_top.specs.declared.commands.Command.TheVariants.{OnFile, Bulk};
+ghost use Rattle.hive_top.specs.declared.commands.Concurrency.{Concurrency as IsConcurrency};
 ghost use Rattle.hive_top.specs.declared.commands.How.{How as IsHow};
 ghost use Rattle.hive_top.specs.declared.commands.Input.{Input as IsInput};
 ghost use Rattle.hive_top.specs.declared.commands.Verb.TheVariants.{Run};
@@ -42,10 +43,14 @@ pub fn run_is_complete()
         → IsEnd (run_answer job brief ReadToEnd (records_of job text)).status }
 {}
 
-/// What is due doesn't depend on the number of slots, nor on whether the journal is asked for.
-pub fn slots_change_nothing()
-    ensures { (words other : List (List ℕ)) (files : Option Files) (rest now : Option (List ℕ)) (shelf source : Bool)
+/// What is due depends neither on the number of workers nor on that of slots, nor on whether the journal is asked for.
+pub fn concurrency_changes_nothing()
+    ensures run { (words other : List (List ℕ)) (files : Option Files) (rest now : Option (List ℕ)) (shelf source : Bool)
         (how further : IsHow) (a : Answer) → command_of words ≡ Some (OnFile (Run how))
         → command_of other ≡ Some (OnFile (Run further)) → file_of other ≡ file_of words → further.brief ≡ how.brief
+        → IsDue words files rest now shelf source a → IsDue other files rest now shelf source a }
+    ensures bulk { (words other : List (List ℕ)) (files : Option Files) (rest now : Option (List ℕ)) (shelf source : Bool)
+        (input : IsInput) (one another : IsConcurrency) (a : Answer) → command_of words ≡ Some (Bulk input one)
+        → command_of other ≡ Some (Bulk input another)
         → IsDue words files rest now shelf source a → IsDue other files rest now shelf source a }
 {}
