@@ -46,9 +46,11 @@ impl Worker {
         ensures steps { steps.new ≡ steps.old + result.performed }
     {
         let mut tally = Tally::new();
+        let mut idle = 0u32;
         for _ in rt.forever() {
             match hall.claim(rt, alloc, pass) {
                 Ask::Told(Claim::Job(claimed)) => {
+                    idle = 0;
                     match perform_between(alloc, gate, claimed, steps) {
                         Ok(done) => give(rt, hall, pass, &mut tally, done),
                         Err((claimed, _)) => {
@@ -60,7 +62,8 @@ impl Worker {
                 }
                 Ask::Told(Claim::Idle { running: _ }) => {
                     book_waiting(rt, hall, pass, &mut tally);
-                    pause();
+                    idle = idle.saturating_add(1);
+                    pause(idle);
                 }
                 Ask::Told(Claim::Over) => return tally.end(WorkerCause::Over),
                 Ask::Told(Claim::NoMemory) => return tally.end(WorkerCause::NoMemory),

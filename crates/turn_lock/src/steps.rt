@@ -13,8 +13,11 @@ use atomic_table::Seat;
 use std::hint;
 use std::sync::Wait;
 
-// How often a thread that waits looks before it sleeps.
-const LOOKS: u32 = 64;
+// How often a thread that waits looks before it sleeps. To be woken takes as long as some hundred turns.
+const LOOKS: u32 = 2_000;
+
+// How often one looks that is next in line, and would have to be woken at once.
+const LAST_LOOKS: u32 = 50_000;
 
 // The bits of a word on which threads sleep.
 const LOW_HALF: u64 = 0xffff_ffff;
@@ -49,7 +52,12 @@ impl<V: Kept> Turn<V> {
             if serving == ticket {
                 return;
             }
-            if looks < LOOKS {
+            let most = if serving.wrapping_add(1) == ticket {
+                LAST_LOOKS
+            } else {
+                LOOKS
+            };
+            if looks < most {
                 looks += 1;
                 hint::spin_loop();
             } else {
