@@ -1,8 +1,8 @@
 -- An event is admitted beside workers, or why it isn't.
-use Rattle.std.proofs.Common.{◌≡◌, ◌≢◌, ℕ, ◌+◌, ◌-◌, ◌*◌, ◌<◌, ◌≤◌, ◌^◌, Bool, true, false, is_some, List, [], ◌∷◌, ◌++◌, append-nil, length, length-append, count_by, Option, Some, None, slice_get, take, refl, sym, ap, ◌∙◌, subst, arith}
+use Rattle.std.proofs.Common.{◌≡◌, ◌≢◌, ℕ, ◌+◌, ◌-◌, ◌*◌, ◌<◌, ◌^◌, Bool, true, false, is_some, List, [], ◌∷◌, ◌++◌, append-nil, length, length-append, count_by, Option, Some, None, slice_get, refl, sym, ap, ◌∙◌, subst, arith}
 use Rattle.std.proofs.lemmas.Option.{slice_get_within}
 use Rattle.std.specs.Prelude.{IsSomeAnd}
-use Rattle.core_laws.proofs.Counting.{count-cons, one_if}
+use Rattle.core_laws.proofs.Counting.{count-cons}
 use Rattle.core_laws.proofs.OncePlaces.{run-once}
 use Rattle.event_loop.proofs.Moves.{all-admitted}
 use Rattle.event_loop.proofs.Ran.{closed-before}
@@ -12,11 +12,10 @@ use Rattle.event_loop.specs.Loop.{IsResultOf}
 use Rattle.event_loop.specs.Running.{IsTallied}
 use Rattle.event_loop.specs.Waiting.{Waits}
 use Rattle.hall_loop.proofs.Given.{IsOneMore, begins-on, one-more}
-use Rattle.hall_loop.proofs.Steps.{Kept, Of, found-told, kept-none, results-still, still}
+use Rattle.hall_loop.proofs.Steps.{Kept, found-told, kept-none, results-still, still}
 use Rattle.hall_loop.proofs.Works.{history-one}
 use Rattle.hall_loop.specs.Beside.{AreResultsOf, IsToldBy, Keeps, first_of}
 use Rattle.hall_loop.specs.Others.{OthersWork}
-use Rattle.hall_loop.specs.Window.{IsWindow}
 use Rattle.hive_hall.specs.Calls.{Calls}
 use Rattle.hive_hall.specs.Pass.{IsPassOf, job_of, seen, slots_of}
 use Rattle.hive_hall.specs.Says.{AdmitHere}
@@ -24,19 +23,16 @@ use Rattle.hive_hall.specs.declared.hall.Hall.{Hall}
 use Rattle.hive_hall.specs.declared.pass.Pass.{Pass}
 use Rattle.hive_model.proofs.Lists.{slice_get-append_front}
 use Rattle.hive_model.specs.EventRecord.{EventRecord}
-use Rattle.hive_model.specs.EventResult.{EventResult}
 use Rattle.hive_model.specs.History.{BeginsWith, DeskState, records_of}
-use Rattle.hive_model.specs.Machine.{Busy, Machine}
+use Rattle.hive_model.specs.Machine.{Busy}
 use Rattle.hive_model.specs.Replay.{replay}
 use Rattle.hive_model.specs.declared.entry.Entry.TheVariants as entry
-use Rattle.hive_model.specs.declared.item.Item.{Item}
 use Rattle.hive_model.specs.declared.item.Item.TheVariants.{Admitted}
 use Rattle.report_text.specs.declared.counts.Counts.{Counts}
 use Rattle.scheduler_core.proofs.Claims.{taken, told}
 use Rattle.scheduler_core.specs.Says.{is_closed, is_full}
-use Rattle.scheduler_core.specs.State.{IsDesk}
 use Rattle.scheduler_core.specs.declared.answers.Admit.{Admit}
-use Rattle.scheduler_core.specs.declared.answers.Admit.TheVariants.{At, Closed, Full, NoMemory as NoRoom}
+use Rattle.scheduler_core.specs.declared.answers.Admit.TheVariants.{At, Closed, Full}
 use Rattle.std.specs.List.{list_all}
 
 -- where fewer events are in flight than there are slots, a slot is empty

@@ -1,5 +1,5 @@
 -- It is said that no further event comes.
-use Rattle.std.proofs.Common.{◌≡◌, ℕ, Bool, true, false, List, [], ◌∷◌, ◌++◌, append-nil, length, refl, sym, ap, ◌∙◌, subst}
+use Rattle.std.proofs.Common.{◌≡◌, ℕ, Bool, true, List, [], ◌∷◌, append-nil, length, sym, ap, ◌∙◌, subst}
 use Rattle.event_loop.proofs.Moves.{has-closed}
 use Rattle.event_loop.proofs.Tallying.{led-of, tallied-last}
 use Rattle.event_loop.specs.Waiting.{Waits}
@@ -13,7 +13,6 @@ use Rattle.hive_hall.specs.Pass.{IsPassOf, job_of, seen, slots_of}
 use Rattle.hive_hall.specs.Says.{LastHere}
 use Rattle.hive_hall.specs.declared.hall.Hall.{Hall}
 use Rattle.hive_hall.specs.declared.pass.Pass.{Pass}
-use Rattle.hive_model.specs.EventRecord.{EventRecord}
 use Rattle.hive_model.specs.History.{BeginsWith, DeskState}
 use Rattle.hive_model.specs.declared.entry.Entry.TheVariants as entry
 use Rattle.hive_model.specs.declared.item.Item.{Item}

@@ -1,12 +1,12 @@
 -- A result goes out.
-use Rattle.std.proofs.Common.{◌≡◌, ℕ, zero, suc, ◌+◌, ◌*◌, ◌<◌, ◌≤◌, Bool, List, [], ◌∷◌, ◌++◌, length, length-take-le, take, slice_get, Some, None, refl, sym, ap, ◌∙◌, subst, arith}
+use Rattle.std.proofs.Common.{◌≡◌, ℕ, zero, suc, ◌+◌, ◌<◌, Bool, List, [], ◌∷◌, ◌++◌, length, length-take-le, slice_get, Some, None, sym, ap, ◌∙◌, subst, arith}
 use Rattle.std.proofs.lemmas.Option.{none-some, slice_get_within}
 use Rattle.std.specs.Prelude.{IsSomeAnd}
 use Rattle.event_loop.proofs.Tallying.{tallied-hands-out}
 use Rattle.event_loop.proofs.Window.{length-moved}
 use Rattle.event_loop.specs.Loop.{IsResultOf}
 use Rattle.event_loop.specs.Waiting.{MovesUp, Waits, waiting_at}
-use Rattle.hall_loop.specs.Beside.{AreResultsOf, IsToldBy, Keeps, first_of}
+use Rattle.hall_loop.specs.Beside.{AreResultsOf, Keeps, first_of}
 use Rattle.hall_loop.specs.Window.{IsWindow}
 use Rattle.hive_hall.specs.Pass.{job_of, seen}
 use Rattle.hive_hall.specs.declared.hall.Hall.{Hall}

@@ -12,3 +12,5 @@ pub mod Recalls
 pub mod LeftResults
 pub mod Settlements
 pub mod Turns
+-- what was seen of why nothing will be claimed any more
+pub mod Causes

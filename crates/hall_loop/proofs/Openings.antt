@@ -1,5 +1,5 @@
 -- A loop at its start.
-use Rattle.std.proofs.Common.{◌≡◌, ℕ, zero, suc, ◌+◌, ◌*◌, ◌<◌, ◌≤◌, false, List, [], ◌∷◌, ◌++◌, length, length-append, replicate, take, Option, Some, None, refl, sym, ap, ◌∙◌, subst, arith}
+use Rattle.std.proofs.Common.{◌≡◌, ℕ, ◌+◌, ◌*◌, ◌≤◌, false, List, [], ◌∷◌, ◌++◌, length, length-append, replicate, Some, None, refl, sym, ap, ◌∙◌, subst, arith}
 use Rattle.std.proofs.lemmas.List.{length-replicate}
 use Rattle.std.proofs.lemmas.List.Elements.{All-pop, All-weaker}
 use Rattle.std.proofs.lemmas.Option.{none-some}
@@ -11,7 +11,6 @@ use Rattle.expr_code.specs.Claim.{Done}
 use Rattle.hall_loop.proofs.Works.{history-one}
 use Rattle.hall_loop.specs.Beside.{AreResultsOf, IsToldBy, Keeps, first_of}
 use Rattle.hall_loop.specs.Opened.{AreNewWorkers, IsNewWorker}
-use Rattle.hall_loop.specs.Others.{OthersWork}
 use Rattle.hall_loop.specs.Window.{IsWindow}
 use Rattle.hive_hall.proofs.Histories.{is-history}
 use Rattle.hive_hall.specs.Closing.{IsNewIn}
@@ -20,8 +19,7 @@ use Rattle.hive_hall.specs.Pass.{job_of, passes_of, seen, slots_of}
 use Rattle.hive_hall.specs.declared.hall.Hall.{Hall}
 use Rattle.hive_hall.specs.declared.pass.Pass.{Pass}
 use Rattle.hive_model.specs.EventRecord.{EventRecord}
-use Rattle.hive_model.specs.EventResult.{EventResult}
-use Rattle.hive_model.specs.History.{DeskState, Participant, history, records_of}
+use Rattle.hive_model.specs.History.{DeskState, Participant, history}
 use Rattle.hive_model.specs.Job.{Job}
 use Rattle.hive_model.specs.Many.{Many}
 use Rattle.hive_model.specs.declared.item.Item.{Item}

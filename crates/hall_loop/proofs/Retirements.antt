@@ -1,5 +1,5 @@
 -- An event ends beside workers, and its result waits.
-use Rattle.std.proofs.Common.{◌≡◌, ◌⊎◌, inl, inr, ℕ, zero, suc, ◌+◌, ◌-◌, ◌*◌, ◌<◌, ◌≤◌, ◌^◌, Bool, true, false, if◌then◌else◌, List, [], ◌∷◌, ◌++◌, length, length-set, set, Option, Some, None, slice_get, take, refl, sym, ap, ◌∙◌, subst, arith}
+use Rattle.std.proofs.Common.{◌≡◌, inl, inr, ℕ, zero, suc, ◌+◌, ◌-◌, ◌<◌, ◌≤◌, Bool, true, false, if◌then◌else◌, List, [], ◌∷◌, length, length-set, set, Option, Some, slice_get, take, refl, sym, ap, ◌∙◌, subst, arith}
 use Rattle.std.proofs.lemmas.Bool.{cases_eq}
 use Rattle.std.proofs.lemmas.Option.{same_Some}
 use Rattle.std.specs.Prelude.{IsSomeAnd}
@@ -9,7 +9,7 @@ use Rattle.event_loop.proofs.Tallying.{counts-fewer, fits, place-known, tallied-
 use Rattle.event_loop.specs.Loop.{IsResultOf}
 use Rattle.event_loop.specs.Waiting.{Waits, waiting_at}
 use Rattle.hall_loop.proofs.Given.{begins-on, still-first}
-use Rattle.hall_loop.proofs.Steps.{Of, found-told, results-still, still}
+use Rattle.hall_loop.proofs.Steps.{found-told, results-still, still}
 use Rattle.hall_loop.proofs.Works.{history-one}
 use Rattle.hall_loop.specs.Beside.{AreResultsOf, IsToldBy, Keeps, first_of}
 use Rattle.hall_loop.specs.Others.{OthersWork}

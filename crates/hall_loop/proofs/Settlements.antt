@@ -1,10 +1,9 @@
 -- When the hall is closed, all that was known where the others only work is known of its desk.
-use Rattle.std.proofs.Common.{◌≡◌, ℕ, zero, suc, ◌+◌, ◌≤◌, Bool, true, List, [], ◌∷◌, ◌++◌, append_assoc, append-nil, length, length-append, take, Some, refl, sym, ap, ◌∙◌, subst, arith}
+use Rattle.std.proofs.Common.{◌≡◌, ℕ, zero, suc, Bool, List, [], ◌∷◌, ◌++◌, length, length-append, take, refl, sym, ap, ◌∙◌, subst, arith}
 use Rattle.std.proofs.lemmas.List.Elements.{All-push, All-weaker}
 use Rattle.std.specs.Prelude.{All, IsSomeAnd}
-use Rattle.event_loop.proofs.Tallying.{led-of, running-of, tallied-alike}
 use Rattle.event_loop.specs.Loop.{LoopState, results_of}
-use Rattle.event_loop.specs.Running.{IsGoing, IsRunning, IsTallied}
+use Rattle.event_loop.specs.Running.{IsGoing, IsTallied}
 use Rattle.event_loop.specs.Waiting.{Waits}
 use Rattle.event_slots.specs.Slots.{claims_out}
 use Rattle.expr_code.specs.Claim.{Done}
@@ -23,9 +22,8 @@ use Rattle.hive_hall.specs.Pass.{IsPassOf, job_of, seen, slots_of}
 use Rattle.hive_hall.specs.declared.hall.Hall.{Hall}
 use Rattle.hive_hall.specs.declared.pass.Pass.{Pass}
 use Rattle.hive_model.specs.EventRecord.{EventRecord}
-use Rattle.hive_model.specs.History.{BeginsWith, DeskState, records_of}
+use Rattle.hive_model.specs.History.{BeginsWith, DeskState}
 use Rattle.hive_model.specs.Job.{Job}
-use Rattle.hive_model.specs.Machine.{Finished, Machine}
 use Rattle.hive_model.specs.Many.{Many}
 use Rattle.hive_model.specs.Replay.{IsWholeRun, replay}
 use Rattle.hive_model.specs.declared.entry.Entry.{Entry}

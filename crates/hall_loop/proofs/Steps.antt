@@ -1,5 +1,5 @@
 -- Calls of the hall in which the loop itself admits and ends nothing leave it as it was.
-use Rattle.std.proofs.Common.{◌≡◌, ℕ, ◌+◌, ◌≤◌, Bool, true, List, [], ◌∷◌, ◌++◌, length, Option, Some, None, slice_get, take, refl, sym, ap, ◌∙◌, subst, arith, append-nil}
+use Rattle.std.proofs.Common.{◌≡◌, ℕ, ◌+◌, Bool, true, List, [], ◌∷◌, ◌++◌, length, Option, Some, None, slice_get, refl, sym, ◌∙◌, subst, append-nil}
 use Rattle.std.specs.Prelude.{IsSomeAnd}
 use Rattle.event_loop.specs.Loop.{IsResultOf}
 use Rattle.event_loop.specs.Waiting.{Waits}
@@ -13,7 +13,7 @@ use Rattle.hall_loop.specs.Others.{AreWorkBut, OthersWork}
 use Rattle.hive_hall.specs.Calls.{BookSays, Calls, StaysOut}
 use Rattle.hive_hall.specs.Legal.{IsHistoryOf}
 use Rattle.hive_hall.specs.Pass.{IsPassOf, job_of, number_of, opening_of, own, seen, slots_of}
-use Rattle.hive_hall.specs.Says.{BackHere, ClaimHere, DoneHere, GiveAdds, Histories, IsStep, RetireHere, StopHere}
+use Rattle.hive_hall.specs.Says.{BackHere, ClaimHere, DoneHere, Histories, RetireHere, StopHere}
 use Rattle.hive_hall.specs.declared.answers.Ask.{Ask}
 use Rattle.hive_hall.specs.declared.answers.Ask.TheVariants.{Told, Stopped}
 use Rattle.hive_hall.specs.declared.answers.Book.{Book}
@@ -21,7 +21,7 @@ use Rattle.hive_hall.specs.declared.answers.Book.TheVariants as book
 use Rattle.hive_hall.specs.declared.hall.Hall.{Hall}
 use Rattle.hive_hall.specs.declared.pass.Pass.{Pass}
 use Rattle.hive_model.specs.EventRecord.{EventRecord}
-use Rattle.hive_model.specs.History.{BeginsWith, DeskState, records_of}
+use Rattle.hive_model.specs.History.{BeginsWith, DeskState}
 use Rattle.hive_model.specs.declared.entry.Entry.{Entry}
 use Rattle.hive_model.specs.declared.entry.Entry.TheVariants as entry
 use Rattle.hive_model.specs.declared.item.Item.{Item}

@@ -1,5 +1,5 @@
 -- What is known of the scheduler core, where the others only work, stays as they go on.
-use Rattle.std.proofs.Common.{◌≡◌, ℕ, ◌*◌, ◌+◌, Bool, List, [], ◌∷◌, ◌++◌, length, refl, sym, ap, ◌∙◌, subst, arith, Some}
+use Rattle.std.proofs.Common.{ℕ, ◌*◌, Bool, List, length, sym, ap, ◌∙◌, subst, arith}
 use Rattle.core_laws.proofs.LastEntry.{last-closes}
 use Rattle.event_loop.specs.Loop.{results_of}
 use Rattle.event_loop.specs.Running.{AreWaiting, IsTallied}
@@ -9,11 +9,9 @@ use Rattle.hall_loop.specs.Beside.{IsToldBy}
 use Rattle.hive_model.specs.EventRecord.{EventRecord}
 use Rattle.hive_model.specs.History.{DeskState}
 use Rattle.hive_model.specs.Job.{Job}
-use Rattle.hive_model.specs.Machine.{Finished, Machine}
-use Rattle.hive_model.specs.Replay.{replay}
+use Rattle.hive_model.specs.Machine.{Finished}
 use Rattle.report_text.specs.Tallied.{CountsAll}
 use Rattle.report_text.specs.declared.counts.Counts.{Counts}
-use Rattle.scheduler_core.specs.Says.{is_closed}
 use Rattle.scheduler_core.specs.State.{IsDesk}
 
 pub tallied-on : (d after : DeskState) (waiting : Waits) (handed : ℕ) (counts : Counts) →

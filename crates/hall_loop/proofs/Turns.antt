@@ -1,5 +1,5 @@
 -- A step after calls in which nothing came in and nothing went out.
-use Rattle.std.proofs.Common.{◌≡◌, ℕ, ◌+◌, List, slice_get, refl, ap, ◌∙◌, subst}
+use Rattle.std.proofs.Common.{ℕ, ◌+◌, List, slice_get, refl, ap, ◌∙◌, subst}
 use Rattle.std.specs.Prelude.{IsSomeAnd}
 use Rattle.event_loop.specs.Loop.{IsResultOf}
 use Rattle.hall_loop.specs.Beside.{GoesOn, HandsOutBeside, StepSays, given_of}

@@ -9,7 +9,6 @@ use Rattle.event_loop.specs.Loop.{IsResultOf}
 use Rattle.event_loop.specs.Running.{IsTallied}
 use Rattle.event_loop.specs.Waiting.{Waits, waiting_at}
 use Rattle.hall_loop.specs.Others.{OthersWork}
-use Rattle.hall_loop.specs.Window.{IsWindow}
 use Rattle.hall_loop.specs.declared.ending.Ended.{Ended}
 use Rattle.hall_loop.specs.declared.ending.Ended.TheVariants as ended
 use Rattle.hall_loop.specs.declared.hall_loop.HallLoop.{HallLoop}
@@ -23,9 +22,11 @@ use Rattle.hive_hall.specs.declared.hall.Hall.{Hall}
 use Rattle.hive_hall.specs.declared.pass.Pass.{Pass}
 use Rattle.hive_model.specs.EventRecord.{EventRecord}
 use Rattle.hive_model.specs.EventResult.{EventResult}
-use Rattle.hive_model.specs.History.{DeskState, records_of}
+use Rattle.hive_model.specs.History.{DeskState, is_stopped, records_of}
+use Rattle.hive_model.specs.declared.item.Item.{Item}
+use Rattle.hive_workers.specs.Outstanding.{state_after}
 use Rattle.report_text.specs.declared.counts.Counts.{Counts}
-use Rattle.scheduler_core.specs.Says.{is_closed}
+use Rattle.scheduler_core.specs.Says.{IsOver, is_closed}
 
 -- the first so many records that were admitted, of what the pass has seen
 abbrev pub first_of : Pass → ℕ → List EventRecord
@@ -110,3 +111,16 @@ StepSays hall old Idle new = GoesOn old new
 StepSays hall old Over new = GoesOn old new
 StepSays hall old NoMemory new = GoesOn old new
 StepSays hall old Lost new = GoesOn old new × IsLost hall new
+
+-- nothing will be claimed any more: the participants were told to stop, or no event is in flight and none comes
+abbrev pub HasNoWork : Hall → List Item → Type 0
+HasNoWork hall items = is_stopped items ≡ false → IsSomeAnd (state_after hall items) IsOver
+
+-- what the loop has seen of why its step came to this
+abbrev pub HasCause : Hall → Step → HallLoop → Type 0
+HasCause hall (Came r) new = Unit {0}
+HasCause hall Went new = Unit {0}
+HasCause hall Idle new = Unit {0}
+HasCause hall Over new = HasNoWork hall (seen new.pass)
+HasCause hall NoMemory new = Unit {0}
+HasCause hall Lost new = Unit {0}

@@ -1,5 +1,8 @@
 //! Results go out, and nothing further comes.
+ghost use Rattle.std.specs.Prelude.{◌≡◌, true};
 ghost use Rattle.hall_loop.specs.Beside.{GoesOn, IsBeside, IsLost, TakesBeside};
+ghost use Rattle.hive_hall.specs.Pass.{seen};
+ghost use Rattle.hive_model.specs.History.{is_stopped};
 
 use crate::hall_loop::HallLoop;
 use hive_hall::Hall;
@@ -33,6 +36,7 @@ impl HallLoop {
         requires { IsBeside hall.now self.old }
         ensures says { GoesOn self.old self.new }
         ensures lost { IsLost hall.now self.old → IsLost hall.now self.new }
+        ensures stopped { is_stopped (seen self.new.pass) ≡ true }
         ensures beside { IsBeside hall.now self.new }
     {
         let _said = hall.stop(rt, &mut self.pass);

@@ -1,7 +1,7 @@
 //! The loop performs an algorithm itself, and makes its steps.
 ghost use Rattle.std.specs.Prelude.{◌≡◌, ◌<◌, IfErr, IfOk};
 ghost use Rattle.expr_code.specs.Claim.{IsOfJob};
-ghost use Rattle.hall_loop.specs.Beside.{GoesOn, IsBeside, StepSays};
+ghost use Rattle.hall_loop.specs.Beside.{GoesOn, HasCause, IsBeside, StepSays};
 ghost use Rattle.hive_hall.specs.Pass.{job_of};
 
 use crate::ending::Ended;
@@ -17,6 +17,9 @@ use std::sync::Wait;
 use std::sync::ledger::{Blank, Ledger};
 use std::thread;
 
+// How often the loop lets other threads run before it asks again, where it found nothing to do.
+const PAUSES: u32 = 20;
+
 impl HallLoop {
     /// Does one step (docs/PROCESSING.md, "The loop beside workers"): it hands out the result of the next record if its
     /// event has ended; else it ends an event in which nothing can run any more; else it performs one algorithm,
@@ -24,6 +27,7 @@ impl HallLoop {
     pub fn turn<R: Wait, G: Gate>(&mut self, rt: &R, alloc: Global, hall: &Hall, gate: &G) -> Step
         requires { IsBeside hall.now self.old }
         ensures says { StepSays hall.now self.old result self.new }
+        ensures cause { HasCause hall.now result self.new }
         ensures beside { IsBeside hall.now self.new }
     {
         if let Some(ended) = self.take(hall) {
@@ -40,6 +44,7 @@ impl HallLoop {
     fn run_one<R: Wait, G: Gate>(&mut self, rt: &R, alloc: Global, hall: &Hall, gate: &G) -> Step
         requires { IsBeside hall.now self.old }
         ensures says { StepSays hall.now self.old result self.new }
+        ensures cause { HasCause hall.now result self.new }
         ensures beside { IsBeside hall.now self.new }
     {
         match hall.claim(rt, alloc, &mut self.pass) {
@@ -55,12 +60,13 @@ impl HallLoop {
     fn wait<R: Wait>(&mut self, rt: &R, hall: &Hall) -> Step
         requires { IsBeside hall.now self.old }
         ensures says { StepSays hall.now self.old result self.new }
+        ensures cause { HasCause hall.now result self.new }
         ensures beside { IsBeside hall.now self.new }
     {
         if self.book_waiting(rt, hall) {
             return Step::Went;
         }
-        thread::yield_now();
+        pause();
         Step::Idle
     }
 
@@ -76,6 +82,7 @@ impl HallLoop {
         requires beside { IsBeside hall.now self.old }
         requires of_job { IsOfJob (job_of hall.now) work }
         ensures says { StepSays hall.now self.old result self.new }
+        ensures cause { HasCause hall.now result self.new }
         ensures beside { IsBeside hall.now self.new }
     {
         match perform_between::<G, Brand>(alloc, gate, work, Blank::new(1)) {
@@ -115,6 +122,14 @@ impl HallLoop {
                 let _lent = work.into_lent();
             }
         }
+    }
+}
+
+// Lets other threads run. Whoever asks takes the lock, so a loop that asked again at once would keep the workers waiting
+// that could give it something to do.
+fn pause() {
+    for _ in 0..PAUSES {
+        thread::yield_now();
     }
 }
 

@@ -13,6 +13,7 @@ use std::thread;
 
 // How often a worker that has nothing to do lets other threads run before it asks again, for each time that it
 // found nothing. Whoever asks takes the lock, so idle workers that asked at once would keep all others waiting.
+// Where it finds something half of these times are forgotten, so a worker that is seldom needed stays out of the way.
 const PAUSES: u32 = 20;
 
 // How many of these times count.

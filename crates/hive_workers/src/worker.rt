@@ -50,7 +50,7 @@ impl Worker {
         for _ in rt.forever() {
             match hall.claim(rt, alloc, pass) {
                 Ask::Told(Claim::Job(claimed)) => {
-                    idle = 0;
+                    idle /= 2;
                     match perform_between(alloc, gate, claimed, steps) {
                         Ok(done) => give(rt, hall, pass, &mut tally, done),
                         Err((claimed, _)) => {

@@ -1,4 +1,4 @@
-use Rattle.std.proofs.Common.{ℕ, ◌*◌, refl, sym, ap, ◌∙◌, replicate, Option, None}
+use Rattle.std.proofs.Common.{ℕ, ◌*◌, refl, ap, ◌∙◌, replicate, Option, None}
 use Rattle.std.specs.Arc.{arc_value}
 use Rattle.hall_loop.proofs.Openings.{keeps-opening, new-workers}
 use Rattle.hive_model.specs.EventResult.{EventResult}

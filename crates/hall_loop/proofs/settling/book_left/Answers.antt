@@ -1,4 +1,4 @@
-use Rattle.hall_loop.proofs.LeftResults.{all-booked, booking-job, booking-none, books-one, drops-one}
+use Rattle.hall_loop.proofs.LeftResults.{booking-job, booking-none, books-one, drops-one}
 use Rattle.hall_loop.proofs.settling.book_left.Goals as goal
 
 pub loop-done-init : goal.loop-done-init

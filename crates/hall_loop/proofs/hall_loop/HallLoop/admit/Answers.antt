@@ -1,6 +1,6 @@
 use Rattle.std.proofs.Common.{refl, arith}
 use Rattle.hall_loop.proofs.Admissions.{admitted-at, back-closed, back-full, back-kept, keeps-at, keeps-lost, lost-at, same-at}
-use Rattle.scheduler_core.specs.declared.answers.Admit.TheVariants.{At, Closed, Full, NoMemory as NoRoom}
+use Rattle.scheduler_core.specs.declared.answers.Admit.TheVariants.{Closed, Full, NoMemory as NoRoom}
 use Rattle.hall_loop.proofs.hall_loop.HallLoop.admit.Goals as goal
 
 pub returns-then-place-self-clause-says : goal.returns-then-place-self-clause-says

@@ -1,7 +1,8 @@
 use Rattle.std.proofs.Common.{refl}
+use Rattle.hall_loop.proofs.Causes.{over-seen, stopped-seen}
 use Rattle.hall_loop.proofs.Steps.{claim-kept}
 use Rattle.hall_loop.proofs.Turns.{says-on}
-use Rattle.hive_hall.specs.declared.answers.Ask.TheVariants.{Told, Stopped}
+use Rattle.hive_hall.specs.declared.answers.Ask.TheVariants.{Told}
 use Rattle.hall_loop.proofs.hall_loop.HallLoop.run_one.Goals as goal
 
 pub run_claim-requires-clause-beside : goal.run_claim-requires-clause-beside
@@ -67,3 +68,11 @@ returns-in-Told-Idle-clause-says g c =
           c.claim.ensures.pass c.claim.result c.claim.ensures.call).same;
       handed = refl;
     }) c.wait.result c.wait.ensures.says
+
+pub returns-in-Told-Over-clause-cause : goal.returns-in-Told-Over-clause-cause
+returns-in-Told-Over-clause-cause g c =
+    over-seen c.args.hall.now c.args.self.now.pass c.claim.new.pass _ c.in-Told-Over.field-0-is c.in-Told-Over.ensures.call
+
+pub returns-in-Stopped-clause-cause : goal.returns-in-Stopped-clause-cause
+returns-in-Stopped-clause-cause g c =
+    stopped-seen c.args.hall.now c.args.self.now.pass c.claim.new.pass c.in-Stopped.ensures.call

@@ -1,4 +1,5 @@
 use Rattle.std.proofs.Common.{refl}
+use Rattle.hall_loop.proofs.Causes.{stop-seen}
 use Rattle.hall_loop.proofs.Steps.{stop-kept}
 use Rattle.hall_loop.proofs.hall_loop.HallLoop.stop.Goals as goal
 
@@ -18,3 +19,7 @@ pub returns-clause-beside : goal.returns-clause-beside
 returns-clause-beside g c =
     (stop-kept c.args.hall.now c.args.self.now.pass c.stop-said.new.pass _ _ _ _ _ _ c.requires
     c.stop-said.ensures.pass c.stop-said.result c.stop-said.ensures.call).on
+
+pub returns-clause-stopped : goal.returns-clause-stopped
+returns-clause-stopped g c =
+    stop-seen c.args.hall.now c.args.self.now.pass c.stop-said.new.pass c.stop-said.result c.stop-said.ensures.call
