@@ -15,10 +15,11 @@ use std::alloc::{AllocError, Global};
 use std::marker::Brand;
 use std::sync::Wait;
 use std::sync::ledger::{Blank, Ledger};
-use std::thread;
+use std::thread::Parker;
+use std::time::Duration;
 
-// How often the loop lets other threads run before it asks again, where it found nothing to do.
-const PAUSES: u32 = 20;
+// How long the loop rests where it found nothing to do, in microseconds.
+const REST: u64 = 50;
 
 impl HallLoop {
     /// Does one step (docs/PROCESSING.md, "The loop beside workers"): it hands out the result of the next record if its
@@ -66,7 +67,7 @@ impl HallLoop {
         if self.book_waiting(rt, hall) {
             return Step::Went;
         }
-        pause();
+        rest(rt);
         Step::Idle
     }
 
@@ -125,12 +126,10 @@ impl HallLoop {
     }
 }
 
-// Lets other threads run. Whoever asks takes the lock, so a loop that asked again at once would keep the workers waiting
-// that could give it something to do.
-fn pause() {
-    for _ in 0..PAUSES {
-        thread::yield_now();
-    }
+// Sleeps a moment. Whoever asks takes the lock, so a loop that asked again at once would keep the workers waiting that
+// could give it something to do.
+fn rest<R: Wait>(rt: &R) {
+    Parker::new().park_timeout(rt, Duration::from_micros(REST));
 }
 
 // Performs a claim, between the gate's calls. The only error is that memory ran out, which hands the claim back.

@@ -17,6 +17,9 @@ use std::alloc::{AllocError, Global};
 use std::sync::{Mutex, Wait};
 use turn_lock::Turn;
 
+// One that has the lock, and one that waits.
+const CROWD: u64 = 2;
+
 /// A scheduler core that several threads use, each by a [`Pass`](crate::Pass) of its own, and a queue for
 /// results that wait to be booked (docs/PROMISES.md, "One legal history").
 ///
@@ -66,6 +69,12 @@ impl Hall {
             Ok((turn, first)) => Ok(deal(turn, first, queue, dealt, made, room, passes)),
             Err((Board { desk, stop: _ }, error)) => Err((desk, error)),
         }
+    }
+
+    /// Whether somebody waits for the lock, as far as a look tells. It takes no turn, and nothing is promised of it: a
+    /// participant that isn't needed comes back later.
+    pub fn is_crowded(&self) -> bool {
+        self.turn.waiting() >= CROWD
     }
 
     /// Waits for the pass's turn, and takes what is behind the lock.

@@ -9,15 +9,6 @@ use crate::tally::Tally;
 use action_queue::MOST_WAITING;
 use hive_hall::{Book, Hall, Pass};
 use std::sync::Wait;
-use std::thread;
-
-// How often a worker that has nothing to do lets other threads run before it asks again, for each time that it
-// found nothing. Whoever asks takes the lock, so idle workers that asked at once would keep all others waiting.
-// Where it finds something half of these times are forgotten, so a worker that is seldom needed stays out of the way.
-const PAUSES: u32 = 20;
-
-// How many of these times count.
-const MOST_IDLE: u32 = 10;
 
 // Books one result. False is answered where none waited.
 fn book<R: Wait>(rt: &R, hall: &Hall, pass: &mut Pass, tally: &mut Tally) -> bool
@@ -56,12 +47,5 @@ pub(crate) fn book_waiting<R: Wait>(rt: &R, hall: &Hall, pass: &mut Pass, tally:
         if !book(rt, hall, pass, tally) {
             return;
         }
-    }
-}
-
-// Lets other threads run, the longer the more often nothing was found.
-pub(crate) fn pause(idle: u32) {
-    for _ in 0..PAUSES.saturating_mul(idle.min(MOST_IDLE)) {
-        thread::yield_now();
     }
 }

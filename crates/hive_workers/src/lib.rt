@@ -11,6 +11,7 @@ mod gate;
 mod giving;
 pub mod laws;
 mod limits;
+mod resting;
 mod tally;
 mod worker;
 

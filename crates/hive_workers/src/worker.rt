@@ -3,10 +3,11 @@ ghost use Rattle.std.specs.Prelude.{◌≡◌, ◌+◌};
 ghost use Rattle.hive_hall.specs.Pass.{IsPassOf};
 ghost use Rattle.hive_workers.specs.Worked.{HasWorked};
 
-use crate::booking::{book_waiting, pause};
+use crate::booking::book_waiting;
 use crate::ends::{WorkerCause, WorkerEnd};
 use crate::gate::Gate;
 use crate::giving::{give, perform_between, put_back};
+use crate::resting::{rest, stand_back};
 use crate::tally::Tally;
 use expr_code::Steps;
 use hive_hall::{Ask, Hall, Pass};
@@ -26,7 +27,8 @@ impl Worker {
 
     /// Claims, performs and hands in, until every event has ended, the participants are told to stop, or
     /// memory runs out (docs/PROMISES.md, "Workers"). After each result it books what waits in the queue.
-    /// Where nothing can be claimed it books, lets other threads run, and asks again. A claim for which
+    /// Where nothing can be claimed it books, rests, and asks again; and where others wait for the hall's lock it comes
+    /// back later, since they do what it would do. A claim for which
     /// memory ran out is put back, so no claim is held at the end.
     ///
     /// It counts each execution in `steps`. It waits for the hall's lock, and that it ever ends isn't
@@ -48,6 +50,7 @@ impl Worker {
         let mut tally = Tally::new();
         let mut idle = 0u32;
         for _ in rt.forever() {
+            idle = stand_back(rt, hall, idle);
             match hall.claim(rt, alloc, pass) {
                 Ask::Told(Claim::Job(claimed)) => {
                     idle /= 2;
@@ -63,7 +66,7 @@ impl Worker {
                 Ask::Told(Claim::Idle { running: _ }) => {
                     book_waiting(rt, hall, pass, &mut tally);
                     idle = idle.saturating_add(1);
-                    pause(idle);
+                    rest(rt, idle);
                 }
                 Ask::Told(Claim::Over) => return tally.end(WorkerCause::Over),
                 Ask::Told(Claim::NoMemory) => return tally.end(WorkerCause::NoMemory),
