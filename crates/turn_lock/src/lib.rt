@@ -10,6 +10,7 @@
 //! `specs/Tickets`, and each step on it is one lemma of `proofs/`.
 #![tactic(auto)]
 
+mod crowd;
 mod kept;
 mod pass;
 mod plays;

@@ -103,11 +103,4 @@ impl<V: Kept> Turn<V> {
             self.table.shared.wake_all(SERVING);
         }
     }
-
-    /// How many passes hold the value or wait for their turn, as far as two looks tell. It takes no turn, and nothing is
-    /// promised of it: it is for whoever would rather come back later.
-    pub fn waiting(&self) -> u64 {
-        let serving = self.table.shared.peek(SERVING);
-        self.table.shared.peek(TICKET).wrapping_sub(serving)
-    }
 }

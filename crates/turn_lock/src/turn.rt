@@ -112,7 +112,8 @@ impl<V: Kept> Turn<V> {
     }
 
     /// Waits for its turn, and takes the value out of the lock. The pass then goes to `release` before anything
-    /// else. That it is ever its turn isn't promised.
+    /// else. Turns go by tickets, and who finds others waiting draws its own a little later. That it is ever its turn
+    /// isn't promised.
     pub fn hold<R: Wait>(&self, rt: &R, pass: &mut TurnPass<V>) -> V
         requires { IsPassOf self.now pass.old × IsIdle pass.old }
         ensures pass { IsPassOf self.now pass.new × IsHolding pass.new }
@@ -122,6 +123,7 @@ impl<V: Kept> Turn<V> {
         ensures same { (seen pass.new ≡ seen pass.old) × (own pass.new ≡ own pass.old) }
         ensures rights { rights_of pass.new ≡ rights_of pass.old }
     {
+        self.stand_back(rt);
         let ticket = self.draw(&mut pass.seat);
         self.wait(rt, &mut pass.seat, ticket);
         let Some(value) = self.table.shared.exchange(&mut pass.seat, SLOT, None) else {
