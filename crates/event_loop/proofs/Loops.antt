@@ -1,5 +1,5 @@
 -- What each call of a loop leaves true.
-use Rattle.std.proofs.Common.{◌≡◌, ℕ, ◌+◌, ◌*◌, ◌<◌, Bool, true, false, is_none, is_some, List, [], ◌∷◌, length, count_by, replicate, slice_get, Option, Some, None, inl, inr, refl, ap, sym, ◌∙◌, subst, arith}
+use Rattle.std.proofs.Common.{◌≡◌, ℕ, ◌+◌, ◌*◌, ◌<◌, Bool, true, false, cond, is_none, is_some, List, [], ◌∷◌, length, count_by, replicate, slice_get, Option, Some, None, inl, inr, refl, ap, sym, ◌∙◌, subst, arith}
 use Rattle.std.proofs.lemmas.Bool.{cases_lt}
 use Rattle.std.proofs.lemmas.List.{length-replicate}
 use Rattle.std.proofs.lemmas.List.Folds.{sum_by-replicate}
@@ -9,7 +9,7 @@ use Rattle.std.specs.Prelude.{IsSomeAnd}
 use Rattle.core_laws.proofs.Counting.{count-cons, one_if}
 use Rattle.core_laws.proofs.LastEntry.{last-closes}
 use Rattle.core_laws.proofs.OncePlaces.{run-once}
-use Rattle.core_laws.specs.Once.{has_place}
+use Rattle.core_laws.specs.Once.{ended_at, has_place}
 use Rattle.event_slots.specs.Slots.{claims_of}
 use Rattle.hive_model.specs.EventRecord.{EventRecord}
 use Rattle.hive_model.specs.EventResult.{EventResult}
@@ -28,7 +28,7 @@ use Rattle.event_loop.proofs.Ran.{work-is}
 use Rattle.event_loop.proofs.Tallies.{counted-complete}
 use Rattle.event_loop.proofs.Tallying.{is-quiet, opening-tallied, running-of, tallied-alike, tallied-first, tallied-hands-out}
 use Rattle.event_loop.proofs.Window.{next-open}
-use Rattle.event_loop.specs.Loop.{HandsOut, IsIdleAt, IsLoop, IsOverAt, KeepsOn, LoopState, TurnSays, results_of, work_at}
+use Rattle.event_loop.specs.Loop.{HandsOut, IsIdleAt, IsLoop, IsOverAt, KeepsOn, LoopState, NextHasEnded, TurnSays, results_of, work_at}
 use Rattle.event_loop.specs.Performing.{IsAtRest, RanOn, RunSays}
 use Rattle.event_loop.specs.Running.{DeskKeeps, EndsNone, IsGoing, IsRunning}
 use Rattle.event_loop.specs.Waiting.{MovesUp, TakesFirst, Waits, waiting_at}
@@ -272,3 +272,14 @@ waits-within d waiting handed counts k waits = go (waiting_at waiting 0) refl wa
         let low = slice_get_within d.admitted (handed + 0) it.0 it.1 in
         omega (arith, low)
     go None e h = absurd (cc)
+
+-- the first place is that of the next record
+pub next-ended : (d : DeskState) (waiting : Waits) (handed : ℕ) (counts : Counts) (b : Bool) →
+    IsRunning d waiting handed counts → b ≡ is_some (waiting_at waiting 0) → NextHasEnded (seen d handed counts) b
+next-ended d waiting handed counts b k is =
+    let t = k.tally in
+    let some : 0 < length waiting = omega (arith, t.room, t.desk.some) in
+    let next : handed + 1 + 0 ≡ handed + 1 = omega arith in
+    in-state d t.machine (λ m. count_by (ended_at (handed + 1)) m.finished ≡ cond b 1 0) t.led
+    (ap (λ n. count_by (ended_at n) t.machine.finished) (sym next)
+    ∙ (t.holds.waits 0 some ∙ ap (λ (x : Bool). cond x 1 0) (sym is)))

@@ -1,9 +1,10 @@
 -- A loop as contracts see it: the desk that it runs, how many results were handed out, and the counts of
 -- the events that ended. Results are handed out in the order of the records. What a turn says stands below,
 -- answer by answer.
-use Rattle.std.specs.Prelude.{◌≡◌, ℕ, ◌+◌, ◌*◌, ◌<◌, ◌≤◌, true, false, is_none, List, [], ◌∷◌, ◌++◌, length, map, Option, IsSomeAnd, slice_get}
+use Rattle.std.specs.Prelude.{◌≡◌, ℕ, ◌+◌, ◌*◌, ◌<◌, ◌≤◌, Bool, true, false, cond, is_none, List, [], ◌∷◌, ◌++◌, length, map, Option, IsSomeAnd, slice_get}
 use Rattle.std.specs.List.{count_by, sum_by}
 use Rattle.std.specs.Option.{option_map_or}
+use Rattle.core_laws.specs.Once.{ended_at}
 use Rattle.event_laws.specs.Uncut.{HasNoCut}
 use Rattle.hive_model.specs.Agreement.{Agrees}
 use Rattle.hive_model.specs.Event.{event_result}
@@ -53,6 +54,10 @@ pub record HasRoom (it : LoopState) : Type 0 where
   pub on : is_closed it.desk ≡ false
   pub free : InState it.desk (λ m. is_full m ≡ false)
   pub few : length it.desk.admitted < it.handed + 2 * it.desk.slots
+
+-- whether the event of the next record has ended, so that its result waits to be handed out
+abbrev pub NextHasEnded : LoopState → Bool → Type 0
+NextHasEnded it ended = InState it.desk (λ m. count_by (ended_at (it.handed + 1)) m.finished ≡ cond ended 1 0)
 
 -- what is still to do for an event: that it ends, and its algorithms that haven't run
 abbrev pub work_of : Option Busy → ℕ

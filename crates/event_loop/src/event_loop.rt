@@ -1,7 +1,7 @@
 //! The loop.
 ghost use Rattle.std.specs.Prelude.{◌≡◌, ◌≤◌, ◌<◌, ◌↔◌, IfOk, IsTrue, OnErr, OnOk, length};
 ghost use Rattle.std.specs.Arc.{arc_value};
-ghost use Rattle.event_loop.specs.Loop.{Admits, Closes, HasRoom, IsLoop, TurnSays, opening_loop};
+ghost use Rattle.event_loop.specs.Loop.{Admits, Closes, HasRoom, IsLoop, NextHasEnded, TurnSays, opening_loop};
 ghost use Rattle.event_loop.specs.Running.{IsGoing};
 ghost use Rattle.hive_model.specs.Fits.{Fits};
 ghost use Rattle.hive_model.specs.Valid.{IsValidJob};
@@ -116,6 +116,7 @@ impl EventLoop {
 
     /// Whether the result of the next record waits to be handed out.
     pub fn has_result(&self) -> bool
+        ensures ended { NextHasEnded self.now result }
         ensures waits { IsTrue result → self.now.handed < length self.now.desk.admitted }
         ensures is_loop { IsLoop self.now }
     {

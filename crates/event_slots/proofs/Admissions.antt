@@ -1,8 +1,8 @@
 -- An event takes an empty slot: the store that it begins with, and what is tied then.
-use Rattle.std.proofs.Common.{◌≡◌, ◌⊎◌, inl, inr, ℕ, zero, suc, ◌+◌, ◌<◌, ◌≤◌, true, false, true≢false, is_some, List, [], ◌∷◌, ◌++◌, length, map, replicate, set, slice_get, unwrap_or, Option, Some, None, refl, sym, ap, ap₂, subst, ◌∙◌, add-one, arith}
+use Rattle.std.proofs.Common.{◌≡◌, ◌⊎◌, inl, inr, ℕ, zero, suc, ◌+◌, ◌<◌, ◌≤◌, true, false, true≢false, is_some, List, [], ◌∷◌, ◌++◌, length, map, replicate, set, slice_get, unwrap_or, Option, Some, None, IsSome, refl, sym, ap, ap₂, subst, ◌∙◌, add-one, arith}
 use Rattle.std.proofs.lemmas.Bool.{cases_eq}
-use Rattle.std.proofs.lemmas.List.{length-append, length-map, length-replicate, length-set, replicate-append-replicate}
-use Rattle.std.proofs.lemmas.Option.{same_Some, slice_get-map, slice_get_within}
+use Rattle.std.proofs.lemmas.List.{length-append, length-map, length-replicate, replicate-append-replicate}
+use Rattle.std.proofs.lemmas.Option.{none-some, same_Some, slice_get-map, slice_get_within}
 use Rattle.std.specs.List.{enumerate_from, flat_map, list_all}
 use Rattle.std.specs.Option.{option_flatten, option_map}
 use Rattle.event_flow.proofs.Following.{begun-follows, begun-of_job}
@@ -21,9 +21,9 @@ use Rattle.loan_laws.proofs.Counting.{flat-none, get-set_same}
 use Rattle.loan_laws.proofs.Opening.{pools-after-admission}
 use Rattle.whiteboard.specs.Slots.{Slots as Board, products_in, store_in, with_store}
 use Rattle.event_slots.specs.Places.{AreEmpty, laid}
-use Rattle.event_slots.specs.Slots.{AreSlotsOf, IsSeatOf, IsSized, Seat, Slots, board_of}
-use Rattle.event_slots.proofs.Boards.{stored-twice}
-use Rattle.event_slots.proofs.Ties.{IsOrderOf, board-changed, busy-other, slot-changed, store_of}
+use Rattle.event_slots.specs.Slots.{AreSlotsOf, IsOrderOf, IsSeatOf, IsSized, Seat, Slots, board_of, busy_in}
+use Rattle.event_slots.proofs.Boards.{some-there, stored-twice}
+use Rattle.event_slots.proofs.Ties.{board-changed, busy-other, busy-same, slot-changed, still-busy, store_of}
 
 abbrev Products : Type 0
 Products = List (Option Product)
@@ -170,29 +170,58 @@ last-is [] x = refl
 last-is (y ∷ xs) x = last-is xs x
 
 in-front : {X : Type 0} (xs : List X) (x y : X) (i : ℕ) → slice_get (xs ++ x ∷ []) i ≡ Some y →
-    (slice_get xs i ≡ Some y) ⊎ (x ≡ y)
-in-front [] x y zero e = inr (same_Some x y e)
+    (slice_get xs i ≡ Some y) ⊎ ((x ≡ y) × (i ≡ length xs))
+in-front [] x y zero e = inr (same_Some x y e, refl)
 in-front [] x y (suc i) e = inl e
 in-front (z ∷ xs) x y zero e = inl e
-in-front (z ∷ xs) x y (suc i) e = in-front xs x y i e
+in-front (z ∷ xs) x y (suc i) e = later (in-front xs x y i e)
+  where
+    later : (slice_get xs i ≡ Some y) ⊎ ((x ≡ y) × (i ≡ length xs)) →
+        (slice_get xs i ≡ Some y) ⊎ ((x ≡ y) × (suc i ≡ suc (length xs)))
+    later (inl old) = inl old
+    later (inr last) = inr (last.0, ap suc last.1)
+
+-- the slot of a new event had no place
+not-yet : (job : Job) (slots : List (Option Busy)) (it : Slots) (slot at s : ℕ) → AreSlotsOf job slots it →
+    slice_get slots slot ≡ Some None → slice_get it.order at ≡ Some s → slot ≡ s → ⊥
+not-yet job slots it slot at s are empty stands same =
+    let some = some-there (busy_in slots s) (are.order.only at s stands) in
+    none-some some.0 (sym (ap option_flatten empty) ∙ ap (busy_in slots) same ∙ some.1)
 
 order-longer : (job : Job) (slots : List (Option Busy)) (it : Slots) (slot : ℕ) (new : Busy) →
     AreSlotsOf job slots it →
-    slot < length slots → IsOrderOf (set slots slot (Some new)) (it.order ++ slot ∷ [])
-order-longer job slots it slot new are within = record {
+    slice_get slots slot ≡ Some None → IsOrderOf (set slots slot (Some new)) (it.order ++ slot ∷ [])
+order-longer job slots it slot new are empty = record {
   all = λ s b there.
       elim (cases_eq s slot) [
         | inl eq ↦ (length it.order, last-is it.order slot ∙ ap Some (sym eq))
         | inr other ↦
-            let stands = are.order s b (sym (busy-other slots slot s (Some new) other) ∙ there) in
+            let stands = are.order.all s b (sym (busy-other slots slot s (Some new) other) ∙ there) in
             (stands.0, front-same it.order (slot ∷ []) stands.0 s stands.1)
       ];
-  within = λ at s stands.
+  only = λ at s stands.
       elim (in-front it.order slot s at stands) [
-        | inl old ↦ omega (arith, length-set slots slot (Some new), are.within at s old)
-        | inr same ↦ omega (arith, length-set slots slot (Some new), within)
+        | inl old ↦ still-busy slots slot s new within (are.order.only at s old)
+        | inr last ↦ subst IsSome (sym (ap (busy_in (set slots slot (Some new))) (sym last.0)
+            ∙ busy-same slots slot (Some new) within)) refl
+      ];
+  once = λ one other s here there.
+      elim (in-front it.order slot s one here) [
+        | inl old ↦
+            elim (in-front it.order slot s other there) [
+              | inl again ↦ are.order.once one other s old again
+              | inr last ↦ absurd (not-yet job slots it slot one s are empty old last.0)
+            ]
+        | inr last ↦
+            elim (in-front it.order slot s other there) [
+              | inl old ↦ absurd (not-yet job slots it slot other s are empty old last.0)
+              | inr again ↦ last.1 ∙ sym again.1
+            ]
       ];
 }
+  where
+    within : slot < length slots
+    within = slice_get_within slots slot None empty
 
 -- the seat
 
@@ -265,4 +294,4 @@ admit-tied job slots old slot place event seat later taken board room order are 
     (slot-changed job slots old slot (Some new) _ board old.pools (old.order ++ slot ∷ []) are within
     (seat-begun job seat place event fits (are.seats slot None seat empty at)) is
     (pools-after-admission job slots old.pools slot place event are.pools empty) (order-longer job slots old
-    slot new are within)))
+    slot new are empty)))

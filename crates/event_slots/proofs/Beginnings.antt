@@ -15,7 +15,7 @@ use Rattle.loan_laws.proofs.Opening.{opening-pools}
 use Rattle.loan_laws.specs.Loans.{ArePoolsOf}
 use Rattle.whiteboard.specs.Slots.{Slots as Board}
 use Rattle.event_slots.specs.Seats.{IsVacantFor}
-use Rattle.event_slots.specs.Slots.{AreSlotsOf, IsSeatOf, Seat, board_of, busy_in}
+use Rattle.event_slots.specs.Slots.{AreSlotsOf, IsOrderOf, IsSeatOf, Seat, board_of, busy_in}
 use Rattle.event_slots.proofs.Ties.{store_of}
 
 none-at : (n i : ℕ) (o : Option Busy) → slice_get (replicate n None) i ≡ Some o → None ≡ o
@@ -35,6 +35,13 @@ none-stored (suc n) = ap (λ (them : List (Option (List (Option Product)))). Non
 
 nobody-in : (n i : ℕ) (b : Busy) → busy_in (replicate n None) i ≡ Some b → ⊥
 nobody-in n i b e = none-some b (sym (flat-none n i) ∙ e)
+
+nobody-first : (n : ℕ) → IsOrderOf (replicate n None) []
+nobody-first n = record {
+  all = λ slot b there. absurd (nobody-in n slot b there);
+  only = λ at slot stands. absurd (none-some slot stands);
+  once = λ one other slot stands again. absurd (none-some slot stands);
+}
 
 pub slots-founded : (job : Job) (n handles : ℕ) (bodies : List Algorithm) (seats : List Seat)
     (board : Board) (pools : Pools)
@@ -59,9 +66,7 @@ slots-founded job n handles bodies seats board pools order few shared many vacan
           (all-get (IsVacantFor job) seats slot seat vacant at);
       board = same board.slots board.handles (none ∙ none-stored n) (wide ∙ all);
       pools = subst (ArePoolsOf job (replicate n None)) (sym opens) (opening-pools job n);
-      order = λ slot b there. absurd (nobody-in n slot b there);
-      within = λ at slot stands.
-          absurd (none-some slot (ap (λ (them : List ℕ). slice_get them at) (sym empty) ∙ stands));
+      order = subst (IsOrderOf (replicate n None)) (sym empty) (nobody-first n);
     }
   where
     same : (xs : List (Option (List (Option Product)))) (h : ℕ) → xs ≡ map store_of (replicate n None) →

@@ -22,7 +22,7 @@ flat-there {X} xs i x e = by (slice_get xs i) refl e
     by None was e = absurd (cc)
     by (Some it) was e = was ∙ ap Some e
 
-some-there : {X : Type 0} (o : Option X) → IsSome o → (x : X) × (o ≡ Some x)
+pub some-there : {X : Type 0} (o : Option X) → IsSome o → (x : X) × (o ≡ Some x)
 some-there None is = absurd (cc)
 some-there (Some x) is = (x, refl)
 

@@ -8,7 +8,7 @@ use Rattle.hive_model.specs.Job.{Job}
 use Rattle.hive_model.specs.Machine.{Busy}
 use Rattle.whiteboard.specs.Slots.{Slots as Board, store_in}
 use Rattle.event_slots.specs.Slots.{AreSlotsOf, IsSeatOf, IsSized, Seat, Slots, busy_in}
-use Rattle.event_slots.proofs.Boards.{flat-there}
+use Rattle.event_slots.proofs.Boards.{flat-there, some-there}
 
 -- a value of which something holds
 
@@ -82,6 +82,13 @@ event-there job slots it slot b are busy =
           ∙ ap option_flatten (slice_get-map (option_map (λ (b : Busy). b.store)) slots slot
           ∙ ap (option_map (option_map (λ (b : Busy). b.store))) there);
     }
+
+-- an event of the order stands in a slot
+pub event-in-order : (job : Job) (slots : List (Option Busy)) (it : Slots) (at slot : ℕ) →
+    AreSlotsOf job slots it → slice_get it.order at ≡ Some slot → slot < length slots
+event-in-order job slots it at slot are stands =
+    let some = some-there (busy_in slots slot) (are.order.only at slot stands) in
+    (event-there job slots it slot some.0 are some.1).within
 
 -- no seat more
 pub as-few : (seats later : List Seat) (slot most : ℕ) (seat : Seat) → later ≡ set seats slot seat →

@@ -84,13 +84,13 @@ pub first-of-all : (job : Job) (slots : List (Option Busy)) (it : Slots) (count 
     Some b →
     claim_at b number ≡ Some c → one.ticket ≤ c.ticket))
 first-of-all job slots it count None are all among = λ slot number b busy.
-    let stands = are.order slot b busy in
+    let stands = are.order.all slot b busy in
     among.1 stands.0 slot (omega (arith, slice_get_within it.order stands.0 slot stands.1)) stands.1 number b
     busy
 first-of-all job slots it count (Some one) are all among = (
   among.0,
   λ slot number b c busy some.
-      let stands = are.order slot b busy in
+      let stands = are.order.all slot b busy in
       among.1 stands.0 slot (omega (arith, slice_get_within it.order stands.0 slot stands.1)) stands.1 number
       b c busy some,
 )

@@ -1,7 +1,7 @@
 -- A settled event leaves its slot: its result, and what is tied then.
-use Rattle.std.proofs.Common.{◌≡◌, ◌≢◌, ◌⊎◌, inl, inr, ℕ, zero, suc, nat_eq, ◌<◌, Bool, true, false, cond, not, is_some, List, [], ◌∷◌, length, set, slice_get, Option, Some, None, refl, sym, ap, subst, ◌∙◌, arith}
-use Rattle.std.proofs.lemmas.Bool.{and_parts, cases_eq, eqb-true}
-use Rattle.std.proofs.lemmas.List.{length-set, map-set}
+use Rattle.std.proofs.Common.{◌≡◌, ◌≢◌, ◌⊎◌, inl, inr, ℕ, zero, suc, nat_eq, ◌<◌, Bool, true, false, true≢false, cond, not, is_some, List, [], ◌∷◌, length, set, slice_get, Option, Some, None, IsSome, refl, sym, ap, subst, ◌∙◌, arith}
+use Rattle.std.proofs.lemmas.Bool.{and_parts, cases_eq, eq-eqb, eqb-true}
+use Rattle.std.proofs.lemmas.List.{map-set}
 use Rattle.std.proofs.lemmas.Option.{none-some, same_Some}
 use Rattle.std.specs.List.{list_any, range_with_len}
 use Rattle.event_flow.proofs.Agreeing.{decisions-same, ends-same}
@@ -22,9 +22,9 @@ use Rattle.loan_laws.proofs.Opening.{pools-after-retirement}
 use Rattle.whiteboard.specs.Slots.{Slots as Board, without_store}
 use Rattle.event_slots.specs.Booking.{result_in}
 use Rattle.event_slots.specs.Orders.{without}
-use Rattle.event_slots.specs.Slots.{AreSlotsOf, Seat, Slots, StandsIn, board_of, busy_in}
+use Rattle.event_slots.specs.Slots.{AreSlotsOf, IsOnce, IsOrderOf, Seat, Slots, StandsIn, board_of, busy_in}
 use Rattle.event_slots.proofs.Found.{HasEvent, event-there}
-use Rattle.event_slots.proofs.Ties.{IsOrderOf, busy-other, busy-same, slot-changed, store_of}
+use Rattle.event_slots.proofs.Ties.{busy-other, busy-same, slot-changed, store_of}
 
 -- the result
 
@@ -94,6 +94,45 @@ stood-before slot s (x ∷ order) stands =
       | inr rest ↦ (let before = stood-before slot s order rest in (suc before.0, before.1))
     ]
 
+once-after : (slot x s : ℕ) (order : List ℕ) → IsOnce (x ∷ order) → x ≡ s → StandsIn (without slot order) s → ⊥
+once-after slot x s order once same stands =
+    let before = stood-before slot s order stands in
+    let at : zero ≡ suc before.0 = once zero (suc before.0) s (ap Some same) before.1 in
+    absurd (omega (arith, at))
+
+once-ahead : (slot x : ℕ) (order : List ℕ) (t : Bool) → IsOnce (x ∷ order) → IsOnce (without slot order) →
+    IsOnce (cond t (x ∷ without slot order) (without slot order))
+once-ahead slot x order false once rest = rest
+once-ahead slot x order true once rest = by
+  where
+    by : IsOnce (x ∷ without slot order)
+    by zero zero s e f = refl
+    by zero (suc other) s e f = absurd (once-after slot x s order once (same_Some x s e) (other, f))
+    by (suc one) zero s e f = absurd (once-after slot x s order once (same_Some x s f) (one, e))
+    by (suc one) (suc other) s e f = ap suc (rest one other s e f)
+
+later-once : (x : ℕ) (order : List ℕ) → IsOnce (x ∷ order) → IsOnce order
+later-once x order once one other s e f =
+    let same : suc one ≡ suc other = once (suc one) (suc other) s e f in
+    omega (arith, same)
+
+once-less : (slot : ℕ) (order : List ℕ) → IsOnce order → IsOnce (without slot order)
+once-less slot [] once = once
+once-less slot (x ∷ order) once =
+    once-ahead slot x order (not (nat_eq x slot)) once (once-less slot order (later-once x order once))
+
+gone-ahead : (slot x : ℕ) (order : List ℕ) (t : Bool) → nat_eq x slot ≡ t →
+    ((at : ℕ) → slice_get (without slot order) at ≡ Some slot → ⊥) → (at : ℕ) →
+    slice_get (cond (not t) (x ∷ without slot order) (without slot order)) at ≡ Some slot → ⊥
+gone-ahead slot x order true is rest at e = rest at e
+gone-ahead slot x order false is rest zero e =
+    true≢false (sym (eq-eqb x slot (same_Some x slot e)) ∙ is)
+gone-ahead slot x order false is rest (suc at) e = rest at e
+
+gone : (slot : ℕ) (order : List ℕ) (at : ℕ) → slice_get (without slot order) at ≡ Some slot → ⊥
+gone slot [] at e = absurd (cc)
+gone slot (x ∷ order) at e = gone-ahead slot x order (nat_eq x slot) refl (gone slot order) at e
+
 order-shorter : (job : Job) (slots : List (Option Busy)) (it : Slots) (slot : ℕ) → AreSlotsOf job slots it →
     slot < length slots →
     IsOrderOf (set slots slot None) (without slot it.order)
@@ -103,12 +142,17 @@ order-shorter job slots it slot are within = record {
         | inl eq ↦ absurd (none-some b (sym (busy-same slots slot None within)
             ∙ (ap (busy_in (set slots slot None)) (sym eq) ∙ there)))
         | inr other ↦
-            let stands = are.order s b (sym (busy-other slots slot s None other) ∙ there) in
+            let stands = are.order.all s b (sym (busy-other slots slot s None other) ∙ there) in
             others-stay slot s it.order stands.0 other stands.1
       ];
-  within = λ at s stands.
-      let before = stood-before slot s it.order (at, stands) in
-      omega (arith, length-set slots slot None, are.within before.0 s before.1);
+  only = λ at s stands.
+      elim (cases_eq s slot) [
+        | inl eq ↦ absurd (gone slot it.order at (stands ∙ ap Some eq))
+        | inr other ↦
+            let before = stood-before slot s it.order (at, stands) in
+            subst IsSome (sym (busy-other slots slot s None other)) (are.order.only before.0 s before.1)
+      ];
+  once = once-less slot it.order are.order.once;
 }
 
 -- after it

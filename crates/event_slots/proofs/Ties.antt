@@ -1,6 +1,6 @@
 -- One slot changes: where its seat, its store, the loans and the order go with it, all slots stay tied to
 -- what is kept.
-use Rattle.std.proofs.Common.{◌≡◌, ◌≢◌, inl, inr, ℕ, ◌<◌, List, length, map, set, slice_get, Option, Some, None, sym, ap, subst, ◌∙◌, arith}
+use Rattle.std.proofs.Common.{◌≡◌, ◌≢◌, inl, inr, ℕ, ◌<◌, List, length, map, set, slice_get, Option, Some, None, IsSome, refl, sym, ap, subst, ◌∙◌, arith}
 use Rattle.std.specs.Option.{option_flatten, option_map}
 use Rattle.std.proofs.lemmas.Bool.{cases_eq}
 use Rattle.std.proofs.lemmas.List.{length-set, map-set, set-get_or}
@@ -13,7 +13,7 @@ use Rattle.hive_model.specs.Machine.{Busy}
 use Rattle.hive_model.specs.declared.product.Product.{Product}
 use Rattle.loan_laws.specs.Loans.{ArePoolsOf}
 use Rattle.whiteboard.specs.Slots.{Slots as Board, with_store}
-use Rattle.event_slots.specs.Slots.{AreSlotsOf, IsSeatOf, Seat, Slots, StandsIn, board_of, busy_in}
+use Rattle.event_slots.specs.Slots.{AreSlotsOf, IsOrderOf, IsSeatOf, Seat, Slots, board_of, busy_in}
 use Rattle.event_slots.proofs.Found.{event-there}
 
 -- what stands in the slot and in the others
@@ -25,11 +25,6 @@ busy-same slots slot busy within = ap option_flatten (get-set_same slots slot bu
 pub busy-other : (slots : List (Option Busy)) (slot s : ℕ) (busy : Option Busy) → s ≢ slot →
     busy_in (set slots slot busy) s ≡ busy_in slots s
 busy-other slots slot s busy other = ap option_flatten (get-set_other slots slot s busy other)
-
--- the order after a change, as it has to be
-pub record IsOrderOf (slots : List (Option Busy)) (order : List ℕ) : Type 0 where
-  pub all : (slot : ℕ) (b : Busy) → busy_in slots slot ≡ Some b → StandsIn order slot
-  pub within : (at slot : ℕ) → slice_get order at ≡ Some slot → slot < length slots
 
 seats-changed : (job : Job) (slots : List (Option Busy)) (seats : List Seat) (slot : ℕ) (busy : Option Busy)
     (seat : Seat) →
@@ -77,8 +72,7 @@ slot-changed job slots old slot busy seat board pools order are within sits show
   seats = seats-changed job slots old.seats slot busy seat are.as_many are.seats sits within;
   board = shows;
   pools = lends;
-  order = orders.all;
-  within = orders.within;
+  order = orders;
 }
 
 -- the whiteboard
@@ -106,16 +100,27 @@ board-kept job slots slot old new there same =
 
 -- the order
 
+pub still-busy : (slots : List (Option Busy)) (slot s : ℕ) (new : Busy) → slot < length slots →
+    IsSome (busy_in slots s) → IsSome (busy_in (set slots slot (Some new)) s)
+still-busy slots slot s new within is =
+    elim (cases_eq s slot) [
+      | inl eq ↦ subst IsSome (sym (ap (busy_in (set slots slot (Some new))) eq
+          ∙ busy-same slots slot (Some new) within)) refl
+      | inr other ↦ subst IsSome (sym (busy-other slots slot s (Some new) other)) is
+    ]
+
 order-kept : (job : Job) (slots : List (Option Busy)) (it : Slots) (slot : ℕ) (old new : Busy) →
     AreSlotsOf job slots it →
     busy_in slots slot ≡ Some old → IsOrderOf (set slots slot (Some new)) it.order
 order-kept job slots it slot old new are busy = record {
   all = λ s b there.
       elim (cases_eq s slot) [
-        | inl eq ↦ are.order s old (ap (busy_in slots) eq ∙ busy)
-        | inr other ↦ are.order s b (sym (busy-other slots slot s (Some new) other) ∙ there)
+        | inl eq ↦ are.order.all s old (ap (busy_in slots) eq ∙ busy)
+        | inr other ↦ are.order.all s b (sym (busy-other slots slot s (Some new) other) ∙ there)
       ];
-  within = λ at s stands. omega (arith, length-set slots slot (Some new), are.within at s stands);
+  only = λ at s stands. still-busy slots slot s new (event-there job slots it slot old are busy).within
+      (are.order.only at s stands);
+  once = are.order.once;
 }
 
 -- an event in a slot goes on

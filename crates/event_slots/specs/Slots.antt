@@ -1,7 +1,7 @@
 -- The events in flight, as their slots keep them, and the scheduler's slots that this stands for. A seat
 -- has the flow of its event and its place in the input, the whiteboard its products, and the pools what all
 -- events have on loan.
-use Rattle.std.specs.Prelude.{◌≡◌, ℕ, ◌<◌, ◌≤◌, is_some, List, length, map, Option, Some, None, slice_get}
+use Rattle.std.specs.Prelude.{◌≡◌, ℕ, ◌≤◌, is_some, List, length, map, Option, Some, None, IsSome, slice_get}
 use Rattle.std.specs.List.{count_by, sum_by}
 use Rattle.std.specs.Option.{option_flatten, option_map, option_map_or}
 use Rattle.clone_pools.specs.Loans.{Pools}
@@ -62,6 +62,17 @@ board_of job slots =
 abbrev pub StandsIn : List ℕ → ℕ → Type 0
 StandsIn order slot = (at : ℕ) × (slice_get order at ≡ Some slot)
 
+-- no slot has two places in it
+abbrev pub IsOnce : List ℕ → Type 0
+IsOnce order =
+    (one other slot : ℕ) → slice_get order one ≡ Some slot → slice_get order other ≡ Some slot → one ≡ other
+
+-- each event in flight has one place in it, and nobody else has one
+pub record IsOrderOf (slots : List (Option Busy)) (order : List ℕ) : Type 0 where
+  pub all : (slot : ℕ) (b : Busy) → busy_in slots slot ≡ Some b → StandsIn order slot
+  pub only : (at slot : ℕ) → slice_get order at ≡ Some slot → IsSome (busy_in slots slot)
+  pub once : IsOnce order
+
 pub record AreSlotsOf (job : Job) (slots : List (Option Busy)) (it : Slots) : Type 0 where
   pub bodies : it.bodies ≡ job.algorithms
   pub as_many : length it.seats ≡ length slots
@@ -70,6 +81,4 @@ pub record AreSlotsOf (job : Job) (slots : List (Option Busy)) (it : Slots) : Ty
       slice_get slots slot ≡ Some busy → slice_get it.seats slot ≡ Some seat → IsSeatOf job busy seat
   pub board : it.board ≡ board_of job slots
   pub pools : ArePoolsOf job slots it.pools
-  -- each event in flight stands in the order, and the order names slots alone
-  pub order : (slot : ℕ) (b : Busy) → busy_in slots slot ≡ Some b → StandsIn it.order slot
-  pub within : (at slot : ℕ) → slice_get it.order at ≡ Some slot → slot < length slots
+  pub order : IsOrderOf slots it.order

@@ -1,5 +1,5 @@
 //! Names and their numbers.
-ghost use Rattle.std.specs.Prelude.{◌≡◌, [], ◌∷◌, ◌++◌, ◌<◌, length, not, true, is_some, IfOk, IfSome};
+ghost use Rattle.std.specs.Prelude.{◌≡◌, [], ◌∷◌, ◌++◌, ◌<◌, length, not, true, false, is_some, IfOk, IfSome};
 ghost use Rattle.text_model.specs.Names.{is_among, number_of as number_among};
 
 use indexmap::IndexSet;
@@ -44,6 +44,7 @@ impl Names {
     pub fn add(&mut self, alloc: Global, name: &str) -> Result<bool, AllocError>
         ensures new { IfOk result (λ it. it ≡ not (is_among self.old name.now)) }
         ensures added { IfOk result (λ it. it ≡ true → self.new ≡ self.old ++ name.now ∷ []) }
+        ensures kept { IfOk result (λ it. it ≡ false → self.new ≡ self.old) }
     {
         let name = String::from_str(alloc, name)?;
         let (_, is_new) = self.names.insert_full(name)?;

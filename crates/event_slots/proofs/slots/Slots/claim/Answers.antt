@@ -3,7 +3,7 @@ use Rattle.std.proofs.lemmas.Bool.{cases_lt}
 use Rattle.std.proofs.lemmas.Option.{slice_get_within}
 use Rattle.event_slots.specs.Attempts.{AreRefused}
 use Rattle.event_slots.specs.Slots.{AreSlotsOf, Slots}
-use Rattle.event_slots.proofs.Found.{read-at, same-value}
+use Rattle.event_slots.proofs.Found.{event-in-order, read-at, same-value}
 use Rattle.event_slots.proofs.slots.Slots.claim.Goals as goal
 
 pub claim_in-requires-clause-known : goal.claim_in-requires-clause-known
@@ -24,8 +24,7 @@ claim_in-requires-clause-known c =
     (ap (λ (it : Slots). it.order) (c.self-in-loop-at.view_is ∙ same)) long c.index-slot.ensures in (
       slots,
       subst (AreSlotsOf job slots) (sym same) c.requires.known.1,
-      c.requires.known.1.within
-          c.loop-at.at c.index-slot.result.now read,
+      event-in-order job slots c.args.self.now c.loop-at.at c.index-slot.result.now c.requires.known.1 read,
     )
 
 pub loop-at-preserved : goal.loop-at-preserved
@@ -67,7 +66,7 @@ returns c = λ slots given.
     let order = c.args.self.now.order in (
       subst (AreSlotsOf job slots) (sym same) given,
       λ slot number b a clone busy of_job.
-          let stands = given.order slot b busy in
+          let stands = given.order.all slot b busy in
           let within = slice_get_within order stands.0 slot stands.1 in
           let short : stands.0 < c.loop-at.at =
           omega (
