@@ -14,3 +14,5 @@ pub mod Settlements
 pub mod Turns
 -- what was seen of why nothing will be claimed any more
 pub mod Causes
+-- what the loop holds
+pub mod Holding

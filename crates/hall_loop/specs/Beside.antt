@@ -4,10 +4,11 @@
 -- halves. Of the records that the loop admitted itself all is known: their places are told when they are admitted, and
 -- a result that was told for such a place is its record's. That the scheduler has admitted nothing else, and ended
 -- nothing else, holds where the others only work (`OthersWork`), which is known when they have returned.
-use Rattle.std.specs.Prelude.{◌≡◌, ℕ, ◌+◌, ◌*◌, ◌<◌, ◌≤◌, Bool, false, List, [], ◌∷◌, ◌++◌, length, take, Option, Some, None, IsSomeAnd, slice_get, Result, Ok, Err}
+use Rattle.std.specs.Prelude.{◌≡◌, ℕ, ◌+◌, ◌*◌, ◌<◌, ◌≤◌, Bool, false, is_some, List, [], ◌∷◌, ◌++◌, length, take, Option, Some, None, IsSomeAnd, slice_get, Result, Ok, Err}
 use Rattle.event_loop.specs.Loop.{IsResultOf}
 use Rattle.event_loop.specs.Running.{IsTallied}
 use Rattle.event_loop.specs.Waiting.{Waits, waiting_at}
+use Rattle.expr_code.specs.Claim.{Claim as Work}
 use Rattle.hall_loop.specs.Others.{OthersWork}
 use Rattle.hall_loop.specs.declared.ending.Ended.{Ended}
 use Rattle.hall_loop.specs.declared.ending.Ended.TheVariants as ended
@@ -17,16 +18,17 @@ use Rattle.hall_loop.specs.declared.step.Fault.TheVariants as fault
 use Rattle.hall_loop.specs.declared.step.Step.{Step}
 use Rattle.hall_loop.specs.declared.step.Step.TheVariants.{Result as Came, Went, Idle, Over, NoMemory, Lost}
 use Rattle.hive_hall.specs.Legal.{IsHistoryOf}
-use Rattle.hive_hall.specs.Pass.{IsPassOf, job_of, seen, slots_of}
+use Rattle.hive_hall.specs.Pass.{IsPassOf, job_of, own, seen, slots_of}
 use Rattle.hive_hall.specs.declared.hall.Hall.{Hall}
 use Rattle.hive_hall.specs.declared.pass.Pass.{Pass}
 use Rattle.hive_model.specs.EventRecord.{EventRecord}
 use Rattle.hive_model.specs.EventResult.{EventResult}
 use Rattle.hive_model.specs.History.{DeskState, is_stopped, records_of}
 use Rattle.hive_model.specs.declared.item.Item.{Item}
-use Rattle.hive_workers.specs.Outstanding.{state_after}
+use Rattle.hive_workers.specs.Outstanding.{AreAccounted, state_after}
 use Rattle.report_text.specs.declared.counts.Counts.{Counts}
-use Rattle.scheduler_core.specs.Says.{IsOver, is_closed}
+use Rattle.scheduler_core.specs.Says.{IsIdle, IsOver, is_closed}
+use Rattle.scheduler_core.specs.State.{InState}
 
 -- the first so many records that were admitted, of what the pass has seen
 abbrev pub first_of : Pass → ℕ → List EventRecord
@@ -60,6 +62,18 @@ pub record Keeps (hall : Hall) (p : Pass) (waiting : Waits) (counts : Counts) (s
 -- what is true of a loop between two calls
 abbrev pub IsBeside : Hall → HallLoop → Type 0
 IsBeside hall it = Keeps hall it.pass it.waiting it.counts it.slots it.admitted it.handed it.closed
+
+-- no claim that the pass added is outstanding after what it has seen, but for those of this work
+abbrev pub HoldsOnly : Hall → Pass → List Work → Type 0
+HoldsOnly hall p works = IsSomeAnd (state_after hall (seen p)) (AreAccounted (seen p) (own p) works)
+
+-- so it is between two calls of a loop: what it claimed it has handed in, or put back
+abbrev pub HoldsNothing : Hall → Pass → Type 0
+HoldsNothing hall p = HoldsOnly hall p []
+
+-- the result of the next record waits to be handed out
+abbrev pub has_waiting : HallLoop → Bool
+has_waiting it = is_some (waiting_at it.waiting 0)
 
 -- an event may be admitted
 pub record HasRoomBeside (it : HallLoop) : Type 0 where
@@ -116,11 +130,19 @@ StepSays hall old Lost new = GoesOn old new × IsLost hall new
 abbrev pub HasNoWork : Hall → List Item → Type 0
 HasNoWork hall items = is_stopped items ≡ false → IsSomeAnd (state_after hall items) IsOver
 
--- what the loop has seen of why its step came to this
+-- nothing may be claimed now, though an event is in flight or may still come, and nobody was told to stop
+pub record FindsNothing (hall : Hall) (items : List Item) : Type 0 where
+  pub on : is_stopped items ≡ false
+  pub core : DeskState
+  pub legal : IsHistoryOf (job_of hall) (slots_of hall) items core
+  pub running : ℕ
+  pub idle : InState core (IsIdle core running)
+
+-- what the loop has seen of why its step came to this; why it lost track stands in StepSays
 abbrev pub HasCause : Hall → Step → HallLoop → Type 0
 HasCause hall (Came r) new = Unit {0}
 HasCause hall Went new = Unit {0}
-HasCause hall Idle new = Unit {0}
+HasCause hall Idle new = FindsNothing hall (seen new.pass)
 HasCause hall Over new = HasNoWork hall (seen new.pass)
 HasCause hall NoMemory new = Unit {0}
 HasCause hall Lost new = Unit {0}

@@ -1,6 +1,6 @@
 -- A hall with a loop and its workers, as it is opened.
 use Rattle.std.specs.Prelude.{◌≡◌, ℕ, ◌+◌, ◌<◌, [], All, length}
-use Rattle.hall_loop.specs.Beside.{IsBeside, given_of}
+use Rattle.hall_loop.specs.Beside.{HoldsNothing, IsBeside, given_of}
 use Rattle.hall_loop.specs.declared.hall_loop.HallLoop.{HallLoop}
 use Rattle.hive_hall.specs.Pass.{IsPassOf, job_of, own, passes_of, slots_of}
 use Rattle.hive_hall.specs.declared.hall.Hall.{Hall}
@@ -27,3 +27,4 @@ pub record IsOpened (job : Job) (slots count : ℕ) (hall : Hall) (workers : Man
   pub beside : IsBeside hall it
   pub none : given_of it ≡ []
   pub none_handed : it.handed ≡ 0
+  pub none_held : HoldsNothing hall it.pass

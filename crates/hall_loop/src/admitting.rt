@@ -1,5 +1,5 @@
 //! Events are admitted.
-ghost use Rattle.hall_loop.specs.Beside.{AdmitsBeside, HasRoomBeside, IsBeside};
+ghost use Rattle.hall_loop.specs.Beside.{AdmitsBeside, HasRoomBeside, HoldsNothing, IsBeside};
 ghost use Rattle.hive_hall.specs.Pass.{job_of};
 ghost use Rattle.hive_model.specs.Fits.{Fits};
 
@@ -27,6 +27,7 @@ impl HallLoop {
         requires fits { Fits (job_of hall.now) event }
         requires room { HasRoomBeside self.old }
         ensures says { AdmitsBeside hall.now self.old event result self.new }
+        ensures none_held { HoldsNothing hall.now self.old.pass → HoldsNothing hall.now self.new.pass }
         ensures beside { IsBeside hall.now self.new }
     {
         if self.admitted >= MOST_RECORDS {

@@ -1,5 +1,7 @@
 //! Results that wait in the queue are booked.
-ghost use Rattle.hall_loop.specs.Beside.{GoesOn, IsBeside};
+ghost use Rattle.std.specs.Prelude.{◌≡◌, IsFalse};
+ghost use Rattle.hall_loop.specs.Beside.{GoesOn, HoldsNothing, IsBeside};
+ghost use Rattle.hive_hall.specs.Pass.{seen};
 
 use crate::hall_loop::HallLoop;
 use action_queue::MOST_WAITING;
@@ -11,6 +13,8 @@ impl HallLoop {
     pub(crate) fn book_one<R: Wait>(&mut self, rt: &R, hall: &Hall) -> bool
         requires { IsBeside hall.now self.old }
         ensures says { GoesOn self.old self.new }
+        ensures stays { IsFalse result → seen self.new.pass ≡ seen self.old.pass }
+        ensures none_held { HoldsNothing hall.now self.old.pass → HoldsNothing hall.now self.new.pass }
         ensures beside { IsBeside hall.now self.new }
     {
         match hall.book(rt, &mut self.pass) {
@@ -24,6 +28,8 @@ impl HallLoop {
     pub(crate) fn book_waiting<R: Wait>(&mut self, rt: &R, hall: &Hall) -> bool
         requires { IsBeside hall.now self.old }
         ensures says { GoesOn self.old self.new }
+        ensures stays { IsFalse result → seen self.new.pass ≡ seen self.old.pass }
+        ensures none_held { HoldsNothing hall.now self.old.pass → HoldsNothing hall.now self.new.pass }
         ensures beside { IsBeside hall.now self.new }
     {
         let mut some = false;

@@ -1,6 +1,6 @@
 //! Events end.
 ghost use Rattle.std.specs.Prelude.{IsFalse, IsTrue};
-ghost use Rattle.hall_loop.specs.Beside.{EndsBeside, IsBeside};
+ghost use Rattle.hall_loop.specs.Beside.{EndsBeside, HoldsNothing, IsBeside};
 ghost use Rattle.hall_loop.specs.Window.{IsOwnAt};
 
 use crate::hall_loop::HallLoop;
@@ -22,6 +22,7 @@ impl HallLoop {
     pub(crate) fn end_one<R: Wait>(&mut self, rt: &R, hall: &Hall) -> Ended
         requires { IsBeside hall.now self.old }
         ensures says { EndsBeside hall.now self.old result self.new }
+        ensures none_held { HoldsNothing hall.now self.old.pass → HoldsNothing hall.now self.new.pass }
         ensures beside { IsBeside hall.now self.new }
     {
         let Some(retired) = hall.retire(rt, &mut self.pass) else {

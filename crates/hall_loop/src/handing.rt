@@ -1,6 +1,6 @@
 //! Results go out, and nothing further comes.
 ghost use Rattle.std.specs.Prelude.{◌≡◌, true};
-ghost use Rattle.hall_loop.specs.Beside.{GoesOn, IsBeside, IsLost, TakesBeside};
+ghost use Rattle.hall_loop.specs.Beside.{GoesOn, HoldsNothing, IsBeside, IsLost, TakesBeside};
 ghost use Rattle.hive_hall.specs.Pass.{seen};
 ghost use Rattle.hive_model.specs.History.{is_stopped};
 
@@ -14,6 +14,7 @@ impl HallLoop {
     pub(crate) fn take(&mut self, hall: &Hall) -> Option<EventResult>
         requires { IsBeside hall.now self.old }
         ensures says { TakesBeside hall.now self.old result self.new }
+        ensures none_held { HoldsNothing hall.now self.old.pass → HoldsNothing hall.now self.new.pass }
         ensures beside { IsBeside hall.now self.new }
     {
         let ended = self.waiting.take_first()?;
@@ -25,6 +26,8 @@ impl HallLoop {
     pub fn last<R: Wait>(&mut self, rt: &R, hall: &Hall)
         requires { IsBeside hall.now self.old }
         ensures says { GoesOn self.old self.new }
+        ensures closed { self.new.closed ≡ true }
+        ensures none_held { HoldsNothing hall.now self.old.pass → HoldsNothing hall.now self.new.pass }
         ensures beside { IsBeside hall.now self.new }
     {
         let _said = hall.last(rt, &mut self.pass);
@@ -37,6 +40,7 @@ impl HallLoop {
         ensures says { GoesOn self.old self.new }
         ensures lost { IsLost hall.now self.old → IsLost hall.now self.new }
         ensures stopped { is_stopped (seen self.new.pass) ≡ true }
+        ensures none_held { HoldsNothing hall.now self.old.pass → HoldsNothing hall.now self.new.pass }
         ensures beside { IsBeside hall.now self.new }
     {
         let _said = hall.stop(rt, &mut self.pass);

@@ -1,8 +1,8 @@
 //! The loop performs an algorithm itself, and makes its steps.
-ghost use Rattle.std.specs.Prelude.{◌≡◌, ◌<◌, IfErr, IfOk};
+ghost use Rattle.std.specs.Prelude.{◌≡◌, ◌<◌, [], ◌∷◌, IfErr, IfOk};
 ghost use Rattle.expr_code.specs.Claim.{IsOfJob};
-ghost use Rattle.hall_loop.specs.Beside.{GoesOn, HasCause, IsBeside, StepSays};
-ghost use Rattle.hive_hall.specs.Pass.{job_of};
+ghost use Rattle.hall_loop.specs.Beside.{FindsNothing, GoesOn, HasCause, HoldsNothing, HoldsOnly, IsBeside, StepSays};
+ghost use Rattle.hive_hall.specs.Pass.{job_of, seen};
 
 use crate::ending::Ended;
 use crate::hall_loop::HallLoop;
@@ -29,6 +29,7 @@ impl HallLoop {
         requires { IsBeside hall.now self.old }
         ensures says { StepSays hall.now self.old result self.new }
         ensures cause { HasCause hall.now result self.new }
+        ensures none_held { HoldsNothing hall.now self.old.pass → HoldsNothing hall.now self.new.pass }
         ensures beside { IsBeside hall.now self.new }
     {
         if let Some(ended) = self.take(hall) {
@@ -46,6 +47,7 @@ impl HallLoop {
         requires { IsBeside hall.now self.old }
         ensures says { StepSays hall.now self.old result self.new }
         ensures cause { HasCause hall.now result self.new }
+        ensures none_held { HoldsNothing hall.now self.old.pass → HoldsNothing hall.now self.new.pass }
         ensures beside { IsBeside hall.now self.new }
     {
         match hall.claim(rt, alloc, &mut self.pass) {
@@ -59,9 +61,11 @@ impl HallLoop {
 
     // Nothing can be claimed: books what waits, or lets workers run.
     fn wait<R: Wait>(&mut self, rt: &R, hall: &Hall) -> Step
-        requires { IsBeside hall.now self.old }
+        requires beside { IsBeside hall.now self.old }
+        requires nothing { FindsNothing hall.now (seen self.old.pass) }
         ensures says { StepSays hall.now self.old result self.new }
         ensures cause { HasCause hall.now result self.new }
+        ensures none_held { HoldsNothing hall.now self.old.pass → HoldsNothing hall.now self.new.pass }
         ensures beside { IsBeside hall.now self.new }
     {
         if self.book_waiting(rt, hall) {
@@ -84,6 +88,8 @@ impl HallLoop {
         requires of_job { IsOfJob (job_of hall.now) work }
         ensures says { StepSays hall.now self.old result self.new }
         ensures cause { HasCause hall.now result self.new }
+        ensures none_held { HoldsOnly hall.now self.old.pass (work ∷ [])
+            → HoldsNothing hall.now self.new.pass }
         ensures beside { IsBeside hall.now self.new }
     {
         match perform_between::<G, Brand>(alloc, gate, work, Blank::new(1)) {
@@ -103,6 +109,8 @@ impl HallLoop {
         requires beside { IsBeside hall.now self.old }
         requires of_job { IsOfJob (job_of hall.now) done.claim }
         ensures says { GoesOn self.old self.new }
+        ensures none_held { HoldsOnly hall.now self.old.pass (done.claim ∷ [])
+            → HoldsNothing hall.now self.new.pass }
         ensures beside { IsBeside hall.now self.new }
     {
         match hall.done(rt, &mut self.pass, done) {
@@ -115,6 +123,8 @@ impl HallLoop {
         requires beside { IsBeside hall.now self.old }
         requires of_job { IsOfJob (job_of hall.now) work }
         ensures says { GoesOn self.old self.new }
+        ensures none_held { HoldsOnly hall.now self.old.pass (work ∷ [])
+            → HoldsNothing hall.now self.new.pass }
         ensures beside { IsBeside hall.now self.new }
     {
         match hall.back(rt, &mut self.pass, work) {

@@ -1,6 +1,6 @@
 //! Whether there is room, and whether a result waits.
-ghost use Rattle.std.specs.Prelude.{IsTrue};
-ghost use Rattle.hall_loop.specs.Beside.{HasRoomBeside};
+ghost use Rattle.std.specs.Prelude.{◌≡◌, ◌↔◌, IsTrue};
+ghost use Rattle.hall_loop.specs.Beside.{HasRoomBeside, has_waiting};
 
 use crate::hall_loop::HallLoop;
 
@@ -8,7 +8,7 @@ impl HallLoop {
     /// Whether an event may be admitted: a slot is empty, events in flight and results that wait are fewer than two
     /// for each slot, and it wasn't said that no further event comes.
     pub fn has_room(&self) -> bool
-        ensures { IsTrue result → HasRoomBeside self.now }
+        ensures { IsTrue result ↔ HasRoomBeside self.now }
     {
         let busy = self.admitted - u64::from(self.counts.events);
         let slots = u64::from(self.slots);
@@ -18,7 +18,9 @@ impl HallLoop {
     }
 
     /// Whether the result of the next record waits to be handed out.
-    pub fn has_result(&self) -> bool {
+    pub fn has_result(&self) -> bool
+        ensures { result ≡ has_waiting self.now }
+    {
         self.waiting.has_first()
     }
 }

@@ -1,10 +1,10 @@
 -- A run beside workers goes on, stops, and is settled.
-use Rattle.std.proofs.Common.{◌≡◌, ◌⊎◌, inl, inr, ℕ, ◌+◌, ◌≤◌, Bool, List, [], ◌∷◌, ◌++◌, Option, Some, None, length, take, refl, sym, ap, subst, ◌∙◌, append-nil, arith, drop_of_length-le, length-take-le, take_all}
+use Rattle.std.proofs.Common.{◌≡◌, ◌⊎◌, inl, inr, ℕ, ◌+◌, ◌≤◌, Bool, List, [], ◌∷◌, ◌++◌, Option, None, length, take, refl, sym, ap, subst, ◌∙◌, append-nil, arith, drop_of_length-le, length-take-le, take_all}
 use Rattle.std.specs.List.{refill}
 use Rattle.std.specs.Prelude.{All, IsSomeAnd}
 use Rattle.event_laws.specs.Uncut.{HasNoCut}
 use Rattle.event_loop.specs.Loop.{IsLoop, LoopState, results_of}
-use Rattle.hall_loop.specs.Beside.{BringsIn, GoesOn, HandsOutBeside, IsBeside, IsLost, given_of}
+use Rattle.hall_loop.specs.Beside.{BringsIn, GoesOn, HandsOutBeside, HasNoWork, IsBeside, IsLost, given_of}
 use Rattle.hall_loop.specs.Opened.{AreNewWorkers}
 use Rattle.hall_loop.specs.Others.{HasOnlyWorked}
 use Rattle.hall_loop.specs.Settled.{AreWorkersOf, IsSettled, IsUnsettled}
@@ -23,16 +23,15 @@ use Rattle.hive_model.specs.Replay.{IsWholeRun, replay}
 use Rattle.hive_model.specs.declared.entry.Entry.{Entry}
 use Rattle.report_text.specs.Tallied.{CountsAll}
 use Rattle.report_text.specs.declared.counts.Counts.{Counts}
-use Rattle.text_model.specs.Whole.{Ending as Last, reports}
+use Rattle.text_model.specs.Whole.{reports}
 use Rattle.hive_pump.proofs.Courses.{broken-shown, course-is, given-shown, prefix-so-far, room-shown, sent-shown}
 use Rattle.hive_pump.proofs.Going.{rest-next, shown-next}
 use Rattle.hive_pump.proofs.Pumping.{longer, sent-by}
 use Rattle.hive_pump.proofs.Shown.{Next, next-of, shows}
-use Rattle.hive_pump.specs.Beside.{DrainBesideSays, GoesOnTo, Parts, PartsFrom, RestsBeside, RunsOutBeside, StepBesideSays, course_beside}
+use Rattle.hive_pump.specs.Beside.{GoesOnTo, HasCauseBeside, HasRunOut, Parts, PartsFrom, RestsBeside, RunsOutBeside, StepBesideSays, course_beside}
 use Rattle.hive_pump.specs.Course.{Course, HasStopped, IsShown, IsUnderWay, PutsAs, WrittenBy, moved_on, reports_left, text_so_far, with_record}
 use Rattle.hive_pump.specs.Going.{IsLoopOf, course_of}
-use Rattle.hive_pump.specs.Input.{HasEnded}
-use Rattle.hive_pump.specs.Pumped.{EndsBy, IsPumped}
+use Rattle.hive_pump.specs.Pumped.{IsPumped}
 use Rattle.hive_pump.specs.Steps.{HasLine, IsBroken, IsSent}
 use Rattle.hive_pump.specs.Written.{AppendsPrefix, written}
 use Rattle.hive_pump.specs.declared.beside.Parted.{Parted}
@@ -343,3 +342,25 @@ workers-returned hall workers lent back new value count worked =
       worked = subst (All (HasOnlyWorked hall)) (sym is) worked;
       room = new.room;
     }
+
+-- why it stopped
+
+-- no report ends the run by itself
+pub put-cause : {K : Type 0} (got : K → Option (List ℕ)) (faults : K → ℕ) (admits : K → List ℕ → Type 0)
+    (text : List ℕ) (sink sink_now : K) (hall : Hall) (new : HallLoop) (step : Step) →
+    PutsAs got faults admits text sink sink_now step → HasCauseBeside hall new step
+put-cause got faults admits text sink sink_now hall new Went h = tt
+put-cause got faults admits text sink sink_now hall new Broken h = tt
+put-cause got faults admits text sink sink_now hall new NoMemory h = tt
+put-cause got faults admits text sink sink_now hall new Idle h = absurd h
+put-cause got faults admits text sink sink_now hall new Over h = absurd h
+put-cause got faults admits text sink sink_now hall new Lost h = absurd h
+
+-- nothing will be claimed any more, so the run may end in any way
+pub run-out : (hall : Hall) (new : HallLoop) (ended : Ending) → HasNoWork hall (seen new.pass) →
+    HasRunOut hall new (parted.By ended)
+run-out hall new ending.All h = h
+run-out hall new (ending.Refused refusal) h = h
+run-out hall new ending.Source h = h
+run-out hall new ending.Sink h = h
+run-out hall new ending.NoMemory h = tt

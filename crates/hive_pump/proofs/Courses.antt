@@ -1,12 +1,12 @@
 -- The course of a run goes on by the report of the next record.
-use Rattle.std.proofs.Common.{◌≡◌, ℕ, zero, suc, ◌+◌, ◌<◌, Bool, List, [], ◌++◌, Option, Some, None, drop, length, slice_get, take, refl, sym, ap, ap₂, subst, ◌∙◌, append_assoc, append-nil, arith}
+use Rattle.std.proofs.Common.{◌≡◌, ℕ, ◌+◌, Bool, List, [], ◌++◌, Option, Some, None, slice_get, take, refl, sym, ap, ap₂, subst, ◌∙◌, append_assoc}
 use Rattle.std.proofs.KnownBytes.{Appends-nil, Appends-trans}
 use Rattle.std.specs.Io.KnownBytes.{Appends}
 use Rattle.hive_model.specs.EventRecord.{EventRecord}
 use Rattle.hive_model.specs.Job.{Job}
-use Rattle.hive_pump.proofs.Texts.{reports-done, reports-next, written-more, written-parts}
+use Rattle.hive_pump.proofs.Texts.{reports-next, written-more, written-parts}
 use Rattle.hive_pump.proofs.Windows.{take-next}
-use Rattle.hive_pump.specs.Course.{Course, IsShown, moved_on, reports_from, reports_left, text_so_far}
+use Rattle.hive_pump.specs.Course.{Course, IsShown, moved_on, reports_left, text_so_far}
 use Rattle.hive_pump.specs.Steps.{IsBroken, IsSent, report_on}
 use Rattle.hive_pump.specs.Written.{AppendsPrefix, written}
 

@@ -6,7 +6,7 @@ use Rattle.event_loop.specs.Loop.{Closes, HandsOut, IsOverAt, KeepsOn, LoopState
 use Rattle.hive_model.specs.EventRecord.{EventRecord}
 use Rattle.hive_model.specs.EventResult.{EventResult}
 use Rattle.hive_model.specs.Job.{Job}
-use Rattle.hive_pump.proofs.Courses.{broken-after, broken-more, course-is, given-shown, left-shown, prefix-of, room-shown, sent-both, sent-nothing}
+use Rattle.hive_pump.proofs.Courses.{broken-after, broken-more, course-is, left-shown, prefix-of, room-shown, sent-both, sent-nothing}
 use Rattle.hive_pump.proofs.Shown.{unmoved}
 use Rattle.hive_pump.proofs.Texts.{reports-done}
 use Rattle.hive_pump.specs.Course.{Course, IsShown, reports_left}

@@ -1,16 +1,14 @@
 -- A run that goes on stays under way, and on one thread it comes nearer to its end.
-use Rattle.std.proofs.Common.{◌≡◌, ◌⊎◌, inl, inr, ℕ, zero, suc, ◌+◌, ◌*◌, ◌<◌, ◌≤◌, Bool, true, false, List, [], ◌∷◌, ◌++◌, Option, None, Some, length, slice_get, take, refl, sym, ap, ap₂, subst, ◌∙◌, arith, length-append}
-use Rattle.std.proofs.Math.Nat.{mul-lt-mul_of_pos_right}
-use Rattle.event_loop.specs.Loop.{Admits, IsLoop, LoopState, opening_loop}
+use Rattle.std.proofs.Common.{◌≡◌, ◌⊎◌, inl, inr, ℕ, zero, suc, ◌+◌, ◌*◌, ◌<◌, ◌≤◌, Bool, true, false, List, [], ◌∷◌, ◌++◌, Option, None, length, refl, sym, ap, ap₂, subst, ◌∙◌, arith, length-append}
+use Rattle.event_loop.specs.Loop.{Admits, IsLoop, LoopState}
 use Rattle.hive_model.specs.EventRecord.{EventRecord}
 use Rattle.hive_model.specs.Job.{Job}
 use Rattle.scheduler_core.specs.Says.{is_closed}
 use Rattle.hive_pump.proofs.Courses.{course-is, given-shown, sent-nothing, sent-shown}
-use Rattle.hive_pump.proofs.Draining.{kept-course, kept-stays, went-less, went-stays}
+use Rattle.hive_pump.proofs.Draining.{kept-course, went-less, went-stays}
 use Rattle.hive_pump.proofs.Inputs.{nothing-read}
-use Rattle.hive_pump.proofs.Shown.{unmoved}
 use Rattle.hive_pump.proofs.Windows.{take-front}
-use Rattle.hive_pump.specs.Course.{Course, IsShown, IsUnderWay, text_so_far, with_record}
+use Rattle.hive_pump.specs.Course.{Course, IsShown, IsUnderWay, with_record}
 use Rattle.hive_pump.specs.Going.{IsLoopOf, IsOpening, IsShownAt, IsWorked, Stays, course_of, left_to_do}
 use Rattle.hive_pump.specs.Input.{IsInput, IsReadOn, IsUnread, unread}
 use Rattle.hive_pump.specs.Steps.{IsSent}

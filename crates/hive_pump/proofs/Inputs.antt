@@ -8,7 +8,7 @@ use Rattle.hive_model.specs.Job.{Job}
 use Rattle.text_model.specs.Records.{Known, so_far}
 use Rattle.text_model.specs.declared.limits.TheConstants.{MOST_LINES}
 use Rattle.hive_pump.proofs.Texts.{told-now}
-use Rattle.hive_pump.specs.Input.{IsFed, IsInput, IsReadOn, IsUnread, left_to_read, most_read, unread}
+use Rattle.hive_pump.specs.Input.{IsFed, IsInput, IsReadOn, IsUnread, left_to_read, most_read}
 use Rattle.hive_pump.specs.declared.input.Input.{Input}
 
 few-records : (job : Job) (fed : List ℕ) (given : List EventRecord) (it : EventRecord) (r : Reading) →

@@ -1,10 +1,9 @@
 -- How reading stops: what was read of the input by then, and what was written.
-use Rattle.std.proofs.Common.{◌≡◌, ◌⊎◌, inl, ℕ, ◌+◌, Bool, true, false, List, [], ◌∷◌, ◌++◌, Option, Some, None, OnErr, OnOk, Result, Ok, Err, is_err, refl, sym, ap, subst, ◌∙◌, append_assoc, append-nil}
+use Rattle.std.proofs.Common.{◌≡◌, inl, ℕ, Bool, true, false, List, [], ◌∷◌, ◌++◌, Option, Some, None, OnErr, OnOk, Result, Ok, Err, is_err, refl, sym, ap, subst, ◌∙◌, append_assoc, append-nil}
 use Rattle.std.proofs.KnownBytes.{Consumes-kept, Consumes-nil, Consumes-trans}
 use Rattle.std.proofs.lemmas.Option.{same_Some}
 use Rattle.std.specs.Io.KnownBytes.{Consumes, IsAtEnd}
 use Rattle.event_records.specs.Reading.{HasRead, IsRefused, Reading, ahead, just, told}
-use Rattle.hive_edge.specs.Fault.{Rose}
 use Rattle.hive_model.specs.EventRecord.{EventRecord}
 use Rattle.hive_model.specs.Job.{Job}
 use Rattle.text_model.specs.Records.{Known, records_of, so_far}

@@ -1,16 +1,13 @@
 -- A run beside workers. What is true of its loop is said by the crate of that loop; here stands how the run's course goes on,
 -- step by step, and how it stops.
-use Rattle.std.specs.Prelude.{◌≡◌, ◌⊎◌, ℕ, Bool, List, [], length, Option}
-use Rattle.hall_loop.specs.Beside.{IsBeside, IsLost, given_of}
-use Rattle.hall_loop.specs.Opened.{AreNewWorkers}
+use Rattle.std.specs.Prelude.{◌≡◌, ◌⊎◌, ℕ, Bool, List, [], Option}
+use Rattle.hall_loop.specs.Beside.{FindsNothing, HasNoWork, IsBeside, IsLost, given_of}
 use Rattle.hall_loop.specs.declared.hall_loop.HallLoop.{HallLoop}
-use Rattle.hive_hall.specs.Pass.{job_of, slots_of}
+use Rattle.hive_hall.specs.Pass.{job_of, seen}
 use Rattle.hive_hall.specs.declared.hall.Hall.{Hall}
-use Rattle.hive_hall.specs.declared.pass.Pass.{Pass}
 use Rattle.hive_model.specs.Job.{Job}
-use Rattle.hive_model.specs.Many.{Many}
 use Rattle.text_model.specs.Whole.{Ending as Last}
-use Rattle.hive_pump.specs.Course.{Course, HasStopped, IsShown, WrittenBy, text_so_far}
+use Rattle.hive_pump.specs.Course.{Course, HasStopped, IsShown, WrittenBy}
 use Rattle.hive_pump.specs.Input.{IsUnread}
 use Rattle.hive_pump.specs.Pumped.{EndsBy}
 use Rattle.hive_pump.specs.Steps.{IsBroken, IsSent}
@@ -49,6 +46,21 @@ StepBesideSays got faults admits hall job brief old new sink sink_now Broken =
 StepBesideSays got faults admits hall job brief old new sink sink_now NoMemory =
     (given_of new ≡ given_of old) × (sink_now ≡ sink)
 StepBesideSays got faults admits hall job brief old new sink sink_now Lost = IsLost hall new
+
+-- what was seen of why a step came to this: nothing may be claimed now, or nothing will be any more
+abbrev pub HasCauseBeside : Hall → HallLoop → Step → Type 0
+HasCauseBeside hall new Went = Unit {0}
+HasCauseBeside hall new Idle = FindsNothing hall (seen new.pass)
+HasCauseBeside hall new Over = HasNoWork hall (seen new.pass)
+HasCauseBeside hall new Broken = Unit {0}
+HasCauseBeside hall new NoMemory = Unit {0}
+HasCauseBeside hall new Lost = Unit {0}
+
+-- the run went on until nothing will be claimed any more, unless memory ran out or the loop lost track
+abbrev pub HasRunOut : Hall → HallLoop → Parted → Type 0
+HasRunOut hall new (parted.By ending.NoMemory) = Unit {0}
+HasRunOut hall new (parted.By other) = HasNoWork hall (seen new.pass)
+HasRunOut hall new parted.Lost = Unit {0}
 
 -- Steps were made after reading had stopped. Whatever was written before, by now it is this.
 pub record GoesOnTo {K : Type 0} (got : K → Option (List ℕ)) (faults : K → ℕ) (admits : K → List ℕ → Type 0) (job : Job)

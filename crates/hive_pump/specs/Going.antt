@@ -1,5 +1,5 @@
 -- A run on one thread between two steps, and how it is brought to its end.
-use Rattle.std.specs.Prelude.{◌≡◌, ◌⊎◌, ℕ, ◌+◌, ◌-◌, ◌*◌, ◌<◌, Bool, true, false, List, [], ◌++◌, length, Option}
+use Rattle.std.specs.Prelude.{◌≡◌, ◌⊎◌, ℕ, ◌+◌, ◌-◌, ◌*◌, ◌<◌, Bool, List, [], ◌++◌, length, Option}
 use Rattle.event_loop.specs.Loop.{IsIdleAt, IsLoop, IsOverAt, KeepsOn, LoopState, opening_loop, work_left}
 use Rattle.hive_edge.specs.Fault.{Rose}
 use Rattle.hive_model.specs.EventRecord.{EventRecord}

@@ -1,7 +1,6 @@
 -- Texts that are written as a step: a report, and the last line.
-use Rattle.std.specs.Prelude.{◌≡◌, ◌⊎◌, ℕ, ◌+◌, ◌-◌, ◌*◌, ◌<◌, Bool, true, if◌then◌else◌, List, [], ◌∷◌, ◌++◌, length, Option, Result, Ok, Err}
-use Rattle.std.specs.Io.KnownBytes.{Appends, Consumes, IsAtEnd, Keeps}
-use Rattle.event_records.specs.Reading.{HasRead, Reading}
+use Rattle.std.specs.Prelude.{◌≡◌, ℕ, Bool, List, [], ◌∷◌, ◌++◌, Option}
+use Rattle.std.specs.Io.KnownBytes.{Appends}
 use Rattle.hive_edge.specs.Fault.{Rose}
 use Rattle.hive_model.specs.Event.{event_result}
 use Rattle.hive_model.specs.EventRecord.{EventRecord}
@@ -9,7 +8,6 @@ use Rattle.hive_model.specs.Job.{Job}
 use Rattle.report_text.specs.declared.counts.Counts.{Counts}
 use Rattle.text_model.specs.Stops.{stop_record, stop_source}
 use Rattle.text_model.specs.Whole.{done_line, reports}
-use Rattle.text_model.specs.declared.limits.TheConstants.{MOST_LINES, MOST_LINE_BYTES, MOST_RECORDS_BYTES}
 use Rattle.hive_pump.specs.Written.{AppendsPrefix}
 use Rattle.hive_pump.specs.declared.ending.Ending.{Ending}
 use Rattle.hive_pump.specs.declared.ending.Ending.TheVariants as ending

@@ -1,19 +1,22 @@
 //! The run with workers.
-ghost use Rattle.std.specs.Prelude.{◌≡◌, ◌≤◌, ℕ, All, List, IfOk, IsTrue, Some, length, slice_get};
+ghost use Rattle.std.specs.Prelude.{◌≡◌, ◌≤◌, ◌↔◌, ℕ, All, List, IfOk, IsTrue, Some, false, length, slice_get, true};
 ghost use Rattle.std.specs.Arc.{arc_value};
 ghost use Rattle.std.specs.Thread.{IsSync};
 ghost use Rattle.event_laws.specs.Uncut.{HasNoCut};
-ghost use Rattle.hall_loop.specs.Beside.{HasRoomBeside, IsBeside};
+ghost use Rattle.hall_loop.specs.Beside.{HasRoomBeside, IsBeside, has_waiting};
 ghost use Rattle.hall_loop.specs.Opened.{AreNewWorkers, IsNewWorker};
 ghost use Rattle.hall_loop.specs.Others.{HasOnlyWorked};
 ghost use Rattle.hall_loop.specs.declared.limits.TheConstants.{MOST_WORKERS};
-ghost use Rattle.hive_hall.specs.Pass.{job_of, slots_of};
+ghost use Rattle.hive_hall.specs.Pass.{job_of, seen, slots_of};
 ghost use Rattle.hive_model.specs.EventRecord.{EventRecord as Record};
+ghost use Rattle.hive_model.specs.History.{is_stopped};
 ghost use Rattle.hive_model.specs.Same.{texts};
 ghost use Rattle.hive_model.specs.Valid.{IsValidJob, handle_names};
 ghost use Rattle.hive_model.specs.declared.limits.TheConstants.{MOST_SLOTS};
 ghost use Rattle.hive_pump.specs.Beside.{
   DrainBesideSays,
+  HasCauseBeside,
+  HasRunOut,
   IsOpeningBeside,
   Parts,
   PartsFrom,
@@ -192,6 +195,7 @@ fn run_beside<R: Threads + Wait + Sync, S: Source, K: Sink, G: Gate>(
     ensures parts { Parts S.rest S.faults K.got K.faults K.admits hall.now job.now brief source.old source.new
         sink.old sink.new run.new.events result }
     ensures beside { IsBeside hall.now run.new.events }
+    ensures told { is_stopped (seen run.new.events.pass) ≡ true }
     ensures count { length passes.new ≡ length passes.old }
     ensures worked { All (HasOnlyWorked hall.now) passes.new }
 {
@@ -207,7 +211,8 @@ fn run_beside<R: Threads + Wait + Sync, S: Source, K: Sink, G: Gate>(
                 × ((text : List ℕ) → MayWrite job.now brief (S.rest source.now) text → K.admits sink.now text) }
             ensures { Parts S.rest S.faults K.got K.faults K.admits hall.entry.now job.entry.now brief source.entry.now
                 source.exit.now sink.entry.now sink.exit.now run.exit.now.events result
-                × IsBeside hall.entry.now run.exit.now.events }
+                × IsBeside hall.entry.now run.exit.now.events
+                × (is_stopped (seen run.exit.now.events.pass) ≡ true) }
         { go_on(rt, alloc, hall, gate, job, names, brief, run, source, sink) },
     );
     parted
@@ -243,6 +248,7 @@ fn go_on<R: Wait, S: Source, K: Sink, G: Gate>(
     ensures parts { Parts S.rest S.faults K.got K.faults K.admits hall.now job.now brief source.old source.new
         sink.old sink.new run.new.events result }
     ensures beside { IsBeside hall.now run.new.events }
+    ensures told { is_stopped (seen run.new.events.pass) ≡ true }
 {
     let parted = read_and_write(rt, alloc, hall, gate, job, names, brief, run, source, sink);
     run.events.stop(rt, hall);
@@ -328,7 +334,7 @@ fn read_beside<R: Wait, S: Source, K: Sink, G: Gate>(
 
 // Whether the next record may be read: no report is due, and its event could be admitted.
 fn can_read(events: &HallLoop) -> bool
-    ensures { IsTrue result → HasRoomBeside events.now }
+    ensures { IsTrue result ↔ (has_waiting events.now ≡ false) × HasRoomBeside events.now }
 {
     !events.has_result() && events.has_room()
 }
@@ -355,6 +361,7 @@ fn step_beside<R: Wait, K: Sink, G: Gate>(
     ensures says { StepBesideSays K.got K.faults K.admits hall.now job.now brief run.old.events run.new.events
         sink.old sink.new result }
     ensures beside { IsBeside hall.now run.new.events }
+    ensures cause { HasCauseBeside hall.now run.new.events result }
     ensures input { run.new.input ≡ run.old.input }
 {
     match run.events.turn(rt, alloc, hall, gate) {
@@ -388,6 +395,7 @@ fn finish_beside<R: Wait, K: Sink, G: Gate>(
     ensures parts { PartsFrom K.got K.faults K.admits hall.now job.now brief ended run.old.events run.new.events
         sink.old sink.new result }
     ensures beside { IsBeside hall.now run.new.events }
+    ensures ran_out { HasRunOut hall.now run.new.events result }
 {
     match ended {
         Ending::All => write_beside(
@@ -453,6 +461,7 @@ fn write_beside<R: Wait, K: Sink, G: Gate>(
     ensures parts { PartsFrom K.got K.faults K.admits hall.now job.now brief ended run.old.events run.new.events
         sink.old sink.new result }
     ensures beside { IsBeside hall.now run.new.events }
+    ensures ran_out { HasRunOut hall.now run.new.events result }
 {
     run.events.last(rt, hall);
     match drain_beside(rt, alloc, hall, gate, job, names, brief, ended, run, sink) {
@@ -482,11 +491,13 @@ fn drain_beside<R: Wait, K: Sink, G: Gate>(
     requires of_job { job_of hall.now ≡ job.now }
     requires named { texts names.now ≡ handle_names job.now }
     requires beside { IsBeside hall.now run.old.events }
+    requires closed { run.old.events.closed ≡ true }
     requires ends { HasLine ended }
     requires room { K.admits sink.old (reports_left job.now brief (course_beside run.old.events)) }
     ensures says { DrainBesideSays K.got K.faults K.admits hall.now job.now brief ended run.old.events run.new.events
         sink.old sink.new result }
     ensures beside { IsBeside hall.now run.new.events }
+    ensures cause { HasCauseBeside hall.now run.new.events result }
 {
     for _ in rt.forever() {
         match step_beside(rt, alloc, hall, gate, job, names, brief, run, sink) {
@@ -501,7 +512,7 @@ fn drain_beside<R: Wait, K: Sink, G: Gate>(
     unreachable!()
 }
 
-// Finishes what was admitted and writes nothing, after the sink has failed.
+// Says that no further event comes, finishes what was admitted and writes nothing, after the sink has failed.
 fn run_out_beside<R: Wait, G: Gate>(
     rt: &R,
     alloc: Global,
@@ -512,8 +523,26 @@ fn run_out_beside<R: Wait, G: Gate>(
     requires { IsBeside hall.now events.old }
     ensures says { RunsOutBeside hall.now events.old events.new result }
     ensures beside { IsBeside hall.now events.new }
+    ensures ran_out { HasRunOut hall.now events.new result }
 {
     events.last(rt, hall);
+    end_beside(rt, alloc, hall, gate, events)
+}
+
+// Makes steps until every event has ended.
+fn end_beside<R: Wait, G: Gate>(
+    rt: &R,
+    alloc: Global,
+    hall: &Hall,
+    gate: &G,
+    events: &mut HallLoop,
+) -> Parted
+    requires beside { IsBeside hall.now events.old }
+    requires closed { events.old.closed ≡ true }
+    ensures says { RunsOutBeside hall.now events.old events.new result }
+    ensures beside { IsBeside hall.now events.new }
+    ensures ran_out { HasRunOut hall.now events.new result }
+{
     for _ in rt.forever() {
         match events.turn(rt, alloc, hall, gate) {
             hall_loop::Step::Result(_) => {}

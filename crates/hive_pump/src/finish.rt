@@ -73,7 +73,8 @@ fn finish<K: Sink>(
     requires sound { IsLoop events.old }
     requires named { texts names.now ≡ handle_names job.now }
     requires room { HasLine ended → K.admits sink.old (rest_of job.now brief ended (course_of events.old)) }
-    ensures says { FinishSays K.got K.faults K.admits job.now brief ended events.old events.new sink.old sink.new result }
+    ensures says { FinishSays K.got K.faults K.admits job.now brief ended
+        events.old events.new sink.old sink.new result }
     ensures is_loop { IsLoop events.new }
 {
     match ended {
@@ -113,7 +114,8 @@ fn write_out<K: Sink>(
     requires named { texts names.now ≡ handle_names job.now }
     requires ends { HasLine ended }
     requires room { K.admits sink.old (rest_of job.now brief ended (course_of events.old)) }
-    ensures says { FinishSays K.got K.faults K.admits job.now brief ended events.old events.new sink.old sink.new result }
+    ensures says { FinishSays K.got K.faults K.admits job.now brief ended
+        events.old events.new sink.old sink.new result }
     ensures is_loop { IsLoop events.new }
 {
     events.last();

@@ -1,8 +1,8 @@
 //! The run on one thread.
-ghost use Rattle.std.specs.Prelude.{◌≡◌, ◌≤◌, ℕ, List, IfOk, IsFalse, IsTrue};
+ghost use Rattle.std.specs.Prelude.{◌≡◌, ◌≤◌, ℕ, List, IfOk, IsFalse, IsTrue, false};
 ghost use Rattle.std.specs.Arc.{arc_value};
 ghost use Rattle.event_laws.specs.Uncut.{HasNoCut};
-ghost use Rattle.event_loop.specs.Loop.{HasRoom, IsIdleAt};
+ghost use Rattle.event_loop.specs.Loop.{HasRoom, IsIdleAt, NextHasEnded};
 ghost use Rattle.hive_model.specs.Same.{texts};
 ghost use Rattle.hive_model.specs.Valid.{IsValidJob, handle_names};
 ghost use Rattle.hive_model.specs.declared.limits.TheConstants.{MOST_SLOTS};
@@ -169,6 +169,7 @@ fn read_all<S: Source, K: Sink>(
 
 // Whether the next record may be read: no report is due, and its event could be admitted.
 fn can_read(events: &EventLoop) -> bool
+    ensures due { IsTrue result → NextHasEnded events.now false }
     ensures room { IsTrue result → HasRoom events.now }
     ensures goes_on { IsFalse result → IsIdleAt events.now → ⊥ }
 {

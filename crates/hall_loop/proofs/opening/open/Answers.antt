@@ -1,5 +1,6 @@
 use Rattle.std.proofs.Common.{ℕ, ◌*◌, refl, ap, ◌∙◌, replicate, Option, None}
 use Rattle.std.specs.Arc.{arc_value}
+use Rattle.hall_loop.proofs.Holding.{holds-none}
 use Rattle.hall_loop.proofs.Openings.{keeps-opening, new-workers}
 use Rattle.hive_model.specs.EventResult.{EventResult}
 use Rattle.hive_model.specs.History.{DeskState}
@@ -22,4 +23,5 @@ returns c =
           ∙ ap (λ (n : ℕ). replicate {A = Option EventResult} (2 * n) None) c.from.ensures) c.new-4.ensures;
       none = refl;
       none_handed = refl;
+      none_held = holds-none c.in-Ok.hall d c.in-Some.pass new.2;
     }

@@ -1,4 +1,3 @@
-use Rattle.std.proofs.Common.{sym, ap, subst, ◌∙◌}
 use Rattle.hive_pump.proofs.Companions.{settled-loop, settled-stopped, unsettled, workers-returned}
 use Rattle.hive_pump.proofs.Pumping.{ran, room-left}
 use Rattle.hive_pump.specs.Going.{course_of}

@@ -1,10 +1,9 @@
-use Rattle.std.proofs.Common.{refl, sym, ap, subst, ◌∙◌}
+use Rattle.std.proofs.Common.{sym, ap, subst, ◌∙◌}
 use Rattle.event_loop.specs.Loop.{LoopState}
 use Rattle.hive_model.specs.Fits.{Fits}
 use Rattle.hive_model.specs.Job.{Job}
-use Rattle.hive_pump.proofs.Draining.{stays-same, went-stays}
-use Rattle.hive_pump.proofs.Going.{admit-less, admit-next, begun, course-admitted, course-begun, going-admitted, going-begun, going-stays, loop-stays, piece-less, piece-next, step-less, went-next}
-use Rattle.hive_pump.proofs.Shown.{unmoved}
+use Rattle.hive_pump.proofs.Draining.{went-stays}
+use Rattle.hive_pump.proofs.Going.{admit-less, admit-next, course-admitted, going-admitted, going-stays, piece-less, piece-next, step-less, went-next}
 use Rattle.hive_pump.proofs.Stopping.{stops-broken, stops-ended, stops-memory, stops-unadmitted, went-well, went-wrong}
 use Rattle.hive_pump.proofs.Texts.{room-event}
 use Rattle.hive_pump.specs.Going.{course_of}

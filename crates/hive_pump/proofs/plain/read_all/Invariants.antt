@@ -1,4 +1,3 @@
-use Rattle.std.proofs.Common.{◌≡◌}
 use Rattle.hive_pump.proofs.Going.{IsGoing}
 use Rattle.hive_pump.specs.Course.{IsUnderWay}
 use Rattle.hive_pump.specs.Going.{course_of, left_to_do}

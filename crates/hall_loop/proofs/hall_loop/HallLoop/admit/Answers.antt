@@ -1,6 +1,7 @@
 use Rattle.std.proofs.Common.{refl, arith}
 use Rattle.hall_loop.proofs.Admissions.{admitted-at, back-closed, back-full, back-kept, keeps-at, keeps-lost, lost-at, same-at}
 use Rattle.scheduler_core.specs.declared.answers.Admit.TheVariants.{Closed, Full, NoMemory as NoRoom}
+use Rattle.hall_loop.proofs.Holding.{admit-holds}
 use Rattle.hall_loop.proofs.hall_loop.HallLoop.admit.Goals as goal
 
 pub returns-then-place-self-clause-says : goal.returns-then-place-self-clause-says
@@ -85,3 +86,28 @@ returns-clause-beside g c =
     (back-kept c.args.hall.now c.args.self.now.pass c.admit.new.pass _ _ _ _ _ _ c.requires.room.on c.requires.beside
     c.in-NoMemory.ensures.pass c.requires.room.free c.requires.room.few c.args.event (NoRoom c.in-NoMemory.field-0)
     c.in-NoMemory.ensures.call c.in-NoMemory.ensures.call.step.added).on
+
+pub returns-then-place-self-clause-none_held : goal.returns-then-place-self-clause-none_held
+returns-then-place-self-clause-none_held g c it =
+    admit-holds c.args.hall.now c.args.self.now.pass c.admit.new.pass c.requires.beside.pass c.admit.ensures.pass
+    c.args.event c.admit.result c.admit.ensures.call it
+
+pub returns-in-At-clause-none_held : goal.returns-in-At-clause-none_held
+returns-in-At-clause-none_held g c it =
+    admit-holds c.args.hall.now c.args.self.now.pass c.admit.new.pass c.requires.beside.pass c.admit.ensures.pass
+    c.args.event c.admit.result c.admit.ensures.call it
+
+pub returns-in-Closed-clause-none_held : goal.returns-in-Closed-clause-none_held
+returns-in-Closed-clause-none_held g c it =
+    admit-holds c.args.hall.now c.args.self.now.pass c.admit.new.pass c.requires.beside.pass c.admit.ensures.pass
+    c.args.event c.admit.result c.admit.ensures.call it
+
+pub returns-in-Full-clause-none_held : goal.returns-in-Full-clause-none_held
+returns-in-Full-clause-none_held g c it =
+    admit-holds c.args.hall.now c.args.self.now.pass c.admit.new.pass c.requires.beside.pass c.admit.ensures.pass
+    c.args.event c.admit.result c.admit.ensures.call it
+
+pub returns-clause-none_held : goal.returns-clause-none_held
+returns-clause-none_held g c it =
+    admit-holds c.args.hall.now c.args.self.now.pass c.admit.new.pass c.requires.beside.pass c.admit.ensures.pass
+    c.args.event c.admit.result c.admit.ensures.call it

@@ -1,6 +1,7 @@
 use Rattle.std.proofs.Common.{refl}
 use Rattle.hall_loop.proofs.Steps.{book-kept}
 use Rattle.hive_hall.specs.declared.answers.Book.TheVariants as book
+use Rattle.hall_loop.proofs.Holding.{book-holds}
 use Rattle.hall_loop.proofs.hall_loop.HallLoop.book_one.Goals as goal
 
 pub returns-in-Booked-clause-says : goal.returns-in-Booked-clause-says
@@ -33,3 +34,18 @@ pub returns-in-Empty-clause-beside : goal.returns-in-Empty-clause-beside
 returns-in-Empty-clause-beside g c =
     (book-kept c.args.hall.now c.args.self.now.pass c.book.new.pass _ _ _ _ _ _ c.requires
     c.in-Empty.ensures.pass book.Empty c.in-Empty.ensures.says).on
+
+pub returns-in-Booked-clause-none_held : goal.returns-in-Booked-clause-none_held
+returns-in-Booked-clause-none_held g c it =
+    book-holds c.args.hall.now c.args.self.now.pass c.book.new.pass c.requires.pass c.in-Booked.ensures.pass book.Booked
+    c.in-Booked.ensures.says it
+
+pub returns-in-NotOutstanding-clause-none_held : goal.returns-in-NotOutstanding-clause-none_held
+returns-in-NotOutstanding-clause-none_held g c it =
+    book-holds c.args.hall.now c.args.self.now.pass c.book.new.pass c.requires.pass c.in-NotOutstanding.ensures.pass (book.NotOutstanding c.in-NotOutstanding._done)
+    c.in-NotOutstanding.ensures.says it
+
+pub returns-in-Empty-clause-none_held : goal.returns-in-Empty-clause-none_held
+returns-in-Empty-clause-none_held g c it =
+    book-holds c.args.hall.now c.args.self.now.pass c.book.new.pass c.requires.pass c.in-Empty.ensures.pass book.Empty
+    c.in-Empty.ensures.says it

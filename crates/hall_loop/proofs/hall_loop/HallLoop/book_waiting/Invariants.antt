@@ -1,5 +1,9 @@
-use Rattle.hall_loop.specs.Beside.{GoesOn, IsBeside}
+use Rattle.std.specs.Prelude.{◌≡◌, false}
+use Rattle.hall_loop.specs.Beside.{GoesOn, HoldsNothing, IsBeside}
+use Rattle.hive_hall.specs.Pass.{seen}
 use Rattle.hall_loop.proofs.hall_loop.HallLoop.book_waiting.Given as goal
 
 abbrev pub invariant-loop-booked : goal.invariant-loop-booked
 invariant-loop-booked g l = IsBeside l.fn.hall l.self × GoesOn l.fn.self l.self
+    × (HoldsNothing l.fn.hall l.fn.self.pass → HoldsNothing l.fn.hall l.self.pass)
+    × (l.some ≡ false → seen l.self.pass ≡ seen l.fn.self.pass)

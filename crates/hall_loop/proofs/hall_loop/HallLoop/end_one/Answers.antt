@@ -4,6 +4,7 @@ use Rattle.hive_model.specs.declared.decision.EventStatus.{EventStatus}
 use Rattle.report_text.specs.Counted.{IsCounted}
 use Rattle.hall_loop.proofs.Retirements.{is-own, keeps-astray, keeps-ended, same-ended, window-ended, within-waiting}
 use Rattle.hall_loop.proofs.Steps.{retire-kept}
+use Rattle.hall_loop.proofs.Holding.{retire-holds}
 use Rattle.hall_loop.proofs.hall_loop.HallLoop.end_one.Goals as goal
 
 pub returns-in_default-clause-says : goal.returns-in_default-clause-says
@@ -56,3 +57,18 @@ returns-clause-beside g c =
     (subst (λ (s : EventStatus). IsCounted c.args.self.now.counts s c.add.new.self)
     (ap (λ (r : EventResult). r.status) c.ended.view_is) c.add.ensures) c.put.ensures
     (within-waiting _ _ _ _ _ _ c.args.self.now.window (c.if-not-is_own.ensures.own refl))
+
+pub returns-in_default-clause-none_held : goal.returns-in_default-clause-none_held
+returns-in_default-clause-none_held g c it =
+    retire-holds c.args.hall.now c.args.self.now.pass c.retire.new.pass c.requires.pass c.retire.ensures.pass
+    c.retire.result c.retire.ensures.call it
+
+pub returns-then-not-is_own-clause-none_held : goal.returns-then-not-is_own-clause-none_held
+returns-then-not-is_own-clause-none_held g c it =
+    retire-holds c.args.hall.now c.args.self.now.pass c.retire.new.pass c.requires.pass c.retire.ensures.pass
+    c.retire.result c.retire.ensures.call it
+
+pub returns-clause-none_held : goal.returns-clause-none_held
+returns-clause-none_held g c it =
+    retire-holds c.args.hall.now c.args.self.now.pass c.retire.new.pass c.requires.pass c.retire.ensures.pass
+    c.retire.result c.retire.ensures.call it

@@ -1,6 +1,7 @@
 use Rattle.std.proofs.Common.{refl}
 use Rattle.hall_loop.proofs.Steps.{done-kept}
 use Rattle.scheduler_core.specs.declared.answers.Give.TheVariants.{Booked, NotOutstanding}
+use Rattle.hall_loop.proofs.Holding.{done-holds}
 use Rattle.hall_loop.proofs.hall_loop.HallLoop.enter_done.Goals as goal
 
 pub returns-in-Booked-clause-says : goal.returns-in-Booked-clause-says
@@ -28,3 +29,14 @@ returns-in-NotOutstanding-clause-beside g c =
     (done-kept c.args.hall.now c.args.self.now.pass c.done.new.pass _ _ _ _ _ _ c.requires.beside
     c.in-NotOutstanding.ensures.pass c.args.done (NotOutstanding c.in-NotOutstanding._done)
     c.in-NotOutstanding.ensures.call).on
+
+pub returns-in-Booked-clause-none_held : goal.returns-in-Booked-clause-none_held
+returns-in-Booked-clause-none_held g c it =
+    done-holds c.args.hall.now c.args.self.now.pass c.done.new.pass c.requires.beside.pass c.in-Booked.ensures.pass
+    c.args.done Booked c.in-Booked.ensures.call it
+
+pub returns-in-NotOutstanding-clause-none_held : goal.returns-in-NotOutstanding-clause-none_held
+returns-in-NotOutstanding-clause-none_held g c it =
+    done-holds c.args.hall.now c.args.self.now.pass c.done.new.pass c.requires.beside.pass
+    c.in-NotOutstanding.ensures.pass c.args.done (NotOutstanding c.in-NotOutstanding._done)
+    c.in-NotOutstanding.ensures.call it

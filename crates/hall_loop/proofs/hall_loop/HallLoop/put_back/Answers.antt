@@ -1,6 +1,7 @@
 use Rattle.std.proofs.Common.{refl}
 use Rattle.hall_loop.proofs.Steps.{back-kept}
 use Rattle.scheduler_core.specs.declared.answers.Give.TheVariants.{Booked, NotOutstanding}
+use Rattle.hall_loop.proofs.Holding.{back-holds}
 use Rattle.hall_loop.proofs.hall_loop.HallLoop.put_back.Goals as goal
 
 pub returns-in-Booked-clause-says : goal.returns-in-Booked-clause-says
@@ -28,3 +29,14 @@ returns-in-NotOutstanding-clause-beside g c =
     (back-kept c.args.hall.now c.args.self.now.pass c.back.new.pass _ _ _ _ _ _ c.requires.beside
     c.in-NotOutstanding.ensures.pass c.args.work (NotOutstanding c.in-NotOutstanding.work)
     c.in-NotOutstanding.ensures.call).on
+
+pub returns-in-Booked-clause-none_held : goal.returns-in-Booked-clause-none_held
+returns-in-Booked-clause-none_held g c it =
+    back-holds c.args.hall.now c.args.self.now.pass c.back.new.pass c.requires.beside.pass c.in-Booked.ensures.pass
+    c.args.work Booked c.in-Booked.ensures.call it
+
+pub returns-in-NotOutstanding-clause-none_held : goal.returns-in-NotOutstanding-clause-none_held
+returns-in-NotOutstanding-clause-none_held g c it =
+    back-holds c.args.hall.now c.args.self.now.pass c.back.new.pass c.requires.beside.pass
+    c.in-NotOutstanding.ensures.pass c.args.work (NotOutstanding c.in-NotOutstanding.work)
+    c.in-NotOutstanding.ensures.call it

@@ -1,6 +1,7 @@
 use Rattle.std.proofs.Common.{refl}
 use Rattle.hall_loop.proofs.Causes.{stop-seen}
 use Rattle.hall_loop.proofs.Steps.{stop-kept}
+use Rattle.hall_loop.proofs.Holding.{stop-holds}
 use Rattle.hall_loop.proofs.hall_loop.HallLoop.stop.Goals as goal
 
 pub returns-clause-says : goal.returns-clause-says
@@ -23,3 +24,8 @@ returns-clause-beside g c =
 pub returns-clause-stopped : goal.returns-clause-stopped
 returns-clause-stopped g c =
     stop-seen c.args.hall.now c.args.self.now.pass c.stop-said.new.pass c.stop-said.result c.stop-said.ensures.call
+
+pub returns-clause-none_held : goal.returns-clause-none_held
+returns-clause-none_held g c it =
+    stop-holds c.args.hall.now c.args.self.now.pass c.stop-said.new.pass c.requires.pass c.stop-said.ensures.pass
+    c.stop-said.result c.stop-said.ensures.call it
