@@ -11,6 +11,7 @@ pub mod Runs
 pub mod Joined
 -- the journal, and its text
 pub mod Journals
+pub mod Pieces
 pub mod Tracing
 -- runs of generated records
 pub mod Generating

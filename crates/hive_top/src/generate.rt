@@ -20,7 +20,8 @@ use std::alloc::Global;
 pub fn generate<K: Sink>(alloc: Global, text: Generated, sink: &mut K) -> Status
     requires room { K.admits sink.old (generated text).text }
     requires within { IsWithin (Command.Generate text) }
-    ensures wrote { Wrote result (K.got sink.old) (K.got sink.new) (K.faults sink.old) (K.faults sink.new) (generated text) }
+    ensures wrote { Wrote result (K.got sink.old) (K.got sink.new)
+        (K.faults sink.old) (K.faults sink.new) (generated text) }
     ensures status { IsOneOf result Status.AllOk }
 {
     match text {

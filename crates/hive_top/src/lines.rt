@@ -25,7 +25,8 @@ use text_model::JobRefusal;
 pub fn tell<K: Sink>(alloc: Global, notice: Notice, sink: &mut K) -> Status
     requires can { CanTell notice }
     requires room { K.admits sink.old (told notice).text }
-    ensures wrote { Wrote result (K.got sink.old) (K.got sink.new) (K.faults sink.old) (K.faults sink.new) (told notice) }
+    ensures wrote { Wrote result (K.got sink.old) (K.got sink.new)
+        (K.faults sink.old) (K.faults sink.new) (told notice) }
     ensures status { IsOneOf result (told notice).status }
     ensures memory { notice ≡ Notice.Stop Stop.NoMemory → (result ≡ Status.NoMemory) × (sink.new ≡ sink.old) }
     ensures words { notice ≡ Notice.Stop Stop.Words → (result ≡ Status.Words) ⊎ (result ≡ Status.Output) }
@@ -40,7 +41,8 @@ pub fn tell<K: Sink>(alloc: Global, notice: Notice, sink: &mut K) -> Status
 // Writes the line of what stopped the call.
 fn put<K: Sink>(alloc: Global, sink: &mut K, stop: &Stop) -> Status
     requires { K.admits sink.old (text_at stop.now) }
-    ensures wrote { Wrote result (K.got sink.old) (K.got sink.new) (K.faults sink.old) (K.faults sink.new) (stopped stop.now) }
+    ensures wrote { Wrote result (K.got sink.old) (K.got sink.new)
+        (K.faults sink.old) (K.faults sink.new) (stopped stop.now) }
     ensures status { IsOneOf result (status_at stop.now) }
     ensures memory { stop.now ≡ Stop.NoMemory → (result ≡ Status.NoMemory) × (sink.new ≡ sink.old) }
     ensures words { stop.now ≡ Stop.Words → (result ≡ Status.Words) ⊎ (result ≡ Status.Output) }
@@ -71,7 +73,8 @@ fn put_refusal<K: Sink>(alloc: Global, sink: &mut K, refusal: &JobRefusal) -> St
 fn put_job<K: Sink>(alloc: Global, sink: &mut K, job: &Job) -> Status
     requires few { handle_count job.now < 2 ^ 16 }
     requires room { K.admits sink.old (job_line job.now) }
-    ensures wrote { Wrote result (K.got sink.old) (K.got sink.new) (K.faults sink.old) (K.faults sink.new) (checked job.now) }
+    ensures wrote { Wrote result (K.got sink.old) (K.got sink.new)
+        (K.faults sink.old) (K.faults sink.new) (checked job.now) }
     ensures status { IsOneOf result Status.AllOk }
 {
     let mut line = Vec::new(alloc);

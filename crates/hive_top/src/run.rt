@@ -39,7 +39,8 @@ pub fn end_generated<K: Sink>(pumped: Pumped, line: &[u8], sink: &mut K) -> Ran
 // Writes the line of a run that ended so. A line that memory had no room for is want of memory.
 fn put_whole<K: Sink>(sink: &mut K, line: &[u8], status: Status) -> Status
     requires room { IsWhole status → K.admits sink.old line.now }
-    ensures { WroteLine line.now status result (K.got sink.old) (K.got sink.new) (K.faults sink.old) (K.faults sink.new) }
+    ensures { WroteLine line.now status result (K.got sink.old) (K.got sink.new)
+        (K.faults sink.old) (K.faults sink.new) }
 {
     match status {
         Status::Output => Status::NoMemory,

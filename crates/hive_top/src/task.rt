@@ -70,7 +70,8 @@ pub fn task_of<F: Shelf>(
     requires asked { asked ≡ command_of (texts words.now) }
     requires within { IfSome asked IsWithin }
     requires files { HasFile (texts words.now) (F.has shelf.old) }
-    ensures is { IsTask asked (second_word (texts words.now)) (F.files shelf.old) (F.faults shelf.old) (F.faults shelf.new) result }
+    ensures is { IsTask asked (second_word (texts words.now)) (F.files shelf.old)
+        (F.faults shelf.old) (F.faults shelf.new) result }
     ensures untouched { calls_files asked ≡ false → shelf.new ≡ shelf.old }
 {
     match asked {

@@ -92,8 +92,8 @@ fn call<R: Threads + Wait + Sync, F: Shelf, S: Source, K: Sink, G: Gate>(
     requires within { IfSome asked IsWithin }
     requires files { HasFile (texts words.now) (F.has shelf.old) }
     requires room { HasRoom (texts words.now) (F.files shelf.old) (S.rest source.old) (K.admits sink.old) }
-    ensures { IsCalled F.files F.faults S.rest S.faults K.got K.faults (texts words.now) shelf.old shelf.new source.old source.new
-        sink.old sink.new result.status result.journal.items }
+    ensures { IsCalled F.files F.faults S.rest S.faults K.got K.faults (texts words.now)
+        shelf.old shelf.new source.old source.new sink.old sink.new result.status result.journal.items }
 {
     match task_of(alloc, asked, words, shelf) {
         Task::Run(job, plan) => {
@@ -127,8 +127,8 @@ fn call_plain<F: Shelf, S: Source, K: Sink>(
     requires within { IfSome asked IsWithin }
     requires files { HasFile (texts words.now) (F.has shelf.old) }
     requires room { HasRoom (texts words.now) (F.files shelf.old) (S.rest source.old) (K.admits sink.old) }
-    ensures { IsCalled F.files F.faults S.rest S.faults K.got K.faults (texts words.now) shelf.old shelf.new source.old source.new
-        sink.old sink.new result.status result.journal.items }
+    ensures { IsCalled F.files F.faults S.rest S.faults K.got K.faults (texts words.now)
+        shelf.old shelf.new source.old source.new sink.old sink.new result.status result.journal.items }
 {
     match task_of(alloc, asked, words, shelf) {
         Task::Run(job, plan) => {

@@ -1,5 +1,8 @@
 //! The journal of a run, as text.
-ghost use Rattle.std.specs.Prelude.{◌≡◌, ◌≢◌, [], IsFalse, IsTrue, true, false};
+ghost use Rattle.std.specs.Io.KnownBytes.{Appends};
+ghost use Rattle.std.specs.Prelude.{◌≡◌, ◌≢◌, [], IsFalse, IsTrue, OnErr, OnOk, true, false};
+ghost use Rattle.gen_out.specs.Sent.{OutputCause};
+ghost use Rattle.hive_edge.specs.Sink.{BreaksOff};
 ghost use Rattle.text_model.specs.Timeline.{timeline};
 ghost use Rattle.hive_top.specs.Status.{IsWhole};
 ghost use Rattle.hive_top.specs.Traces.{Follows, IsTraced};
@@ -8,10 +11,14 @@ ghost use Rattle.hive_top.specs.Words.{calls_trace};
 use crate::commands::{Command, Verb};
 use crate::ran::Ran;
 use crate::status::Status;
+use gen_out::OutputFault;
 use hive_edge::{Sink, send};
 use hive_model::Entry;
 use std::alloc::Global;
 use timeline::print;
+
+// How many entries are made text of and written at once.
+const PIECE: usize = 4_096;
 
 /// Writes the journal of a call to the trace and flushes it, where that is asked for, a job was run, and nothing broke
 /// the call off.
@@ -80,14 +87,35 @@ fn print_journal<T: Sink>(alloc: Global, status: Status, journal: &[Entry], trac
     ensures follows { Follows status result (T.faults trace.old) (T.faults trace.new) }
     ensures traced { IsTraced result (T.got trace.old) (T.got trace.new) journal.now }
 {
-    let Ok(text) = print(alloc, journal) else {
-        return Status::NoMemory;
-    };
-    match send(trace, text.as_slice()) {
+    match send_journal(alloc, journal, trace) {
         Ok(()) => match trace.flush() {
             Ok(()) => status,
             Err(_) => Status::Output,
         },
-        Err(_) => Status::Output,
+        Err(OutputFault::Failed) => Status::Output,
+        Err(OutputFault::NoMemory) => Status::NoMemory,
     }
+}
+
+// Writes the text of a journal piece by piece, so that it takes no memory that grows with the journal. It flushes nothing.
+// After an error a front of the text was written.
+fn send_journal<T: Sink>(alloc: Global, journal: &[Entry], trace: &mut T) -> Result<(), OutputFault>
+    requires room { T.admits trace.old (timeline journal.now) }
+    ensures bytes { OnOk result (Appends (T.got trace.old) (T.got trace.new) (timeline journal.now)) }
+    ensures broken { OnErr result (BreaksOff (T.got trace.old) (T.got trace.new)
+        (T.admits trace.old) (T.admits trace.new) (timeline journal.now)) }
+    ensures cause { OutputCause (T.faults trace.old) (T.faults trace.new) result }
+{
+    let mut at = 0;
+    'pieces: while at < journal.len() {
+        let end = at + PIECE.min(journal.len() - at);
+        let Ok(text) = print(alloc, &journal[at..end]) else {
+            return Err(OutputFault::NoMemory);
+        };
+        match send(trace, text.as_slice()) {
+            Ok(()) => at = end,
+            Err(_) => return Err(OutputFault::Failed),
+        }
+    }
+    Ok(())
 }

@@ -204,7 +204,8 @@ fn option_first<'a, 'b>(
 ) -> Option<(u8, &'b [&'a str])>
     requires at_least { low ≤ default }
     requires at_most { default ≤ high }
-    ensures is { option_map (λ it. (it.0, texts it.1.now)) result ≡ option_first name.now low high default (texts words.now) }
+    ensures is { option_map (λ it. (it.0, texts it.1.now)) result
+        ≡ option_first name.now low high default (texts words.now) }
     ensures within { IfSome result (λ it. (low ≤ it.0) × (it.0 ≤ high)) }
 {
     match words.split_first() {

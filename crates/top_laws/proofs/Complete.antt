@@ -12,9 +12,8 @@ use Rattle.hive_model.specs.Job.{Job}
 use Rattle.hive_pump.specs.Written.{results}
 use Rattle.job_options.specs.Known.{known_language}
 use Rattle.text_model.specs.Jobs.{job_of}
-use Rattle.text_model.specs.Records.{Known, records_of}
-use Rattle.text_model.specs.Steps.{map_err}
-use Rattle.text_model.specs.Whole.{Ending, ReadToEnd, RefusedAt, done_line, is_failed, is_ok, is_stalled, tally, whole}
+use Rattle.text_model.specs.Records.{records_of}
+use Rattle.text_model.specs.Whole.{ReadToEnd, RefusedAt, done_line, is_failed, is_ok, is_stalled, tally, whole}
 use Rattle.text_model.specs.declared.limits.TheConstants.{MOST_OPTIONS_BYTES}
 use Rattle.text_model.specs.declared.record_refusal.RecordRefusal.{RecordRefusal}
 use Rattle.hive_top.specs.Answer.{Answer, IsDue, IsDueOfFile, IsDueOfName, bulk_answer, file_job, named_job, run_answer, status_of}
