@@ -2,8 +2,9 @@
 //!
 //! With an options file and a number it makes so many records of that job, runs their events through a desk
 //! with four slots, and prints what an event and what a claim took; then what it takes to evaluate each
-//! record by itself. Without words it runs some events of the job in data/, and says whether each has the
-//! result that its record has by itself.
+//! record by itself. With `plain`, an options file and a file of records it writes the records' reports by a
+//! plain loop, for `bench/run`. Without words it runs some events of the job in data/, and says whether each
+//! has the result that its record has by itself.
 #![tactic(auto)]
 
 ghost use Rattle.std.specs.Arc.{arc_value};
@@ -11,6 +12,7 @@ ghost use Rattle.desk_bench.specs.Waiting.{AreFitting, IsDeskOf};
 ghost use Rattle.hive_model.specs.Valid.{IsValidJob};
 
 mod desks;
+mod plain;
 mod records;
 mod running;
 mod totals;
@@ -18,6 +20,7 @@ mod totals;
 use desks::{alone, open_desk};
 use hive_model::{EventRecord, Job};
 use job_build::build;
+use plain::report_records;
 use records::records;
 use running::run;
 use scheduler_core::Desk;
@@ -30,11 +33,18 @@ use totals::Totals;
 fn main(rt: HostRuntime) -> anyhow::Result<()> {
     let mut words = env::args(&rt)?;
     let _program = words.next();
-    let file = words.next();
-    let count = words.next();
-    match (file, count) {
-        (Some(file), Some(count)) => time_file(&rt, file.as_str(), count.parse()?),
-        (None, _) | (Some(_), None) => compare_file(&rt, "trigger.toml", 100),
+    match (words.next(), words.next(), words.next()) {
+        (Some(_), Some(file), Some(records)) => report_file(&rt, file.as_str(), records.as_str()),
+        (Some(file), Some(count), None) => time_file(&rt, file.as_str(), count.parse()?),
+        _ => compare_file(&rt, "trigger.toml", 100),
+    }
+}
+
+fn report_file(rt: &HostRuntime, file: &str, records: &str) -> anyhow::Result<()> {
+    let options = fs::read(rt, file)?;
+    match build(rt.alloc(), options.as_slice()) {
+        Ok(job) => report_records(rt, job, fs::read(rt, records)?.as_slice()),
+        Err(refusal) => Ok(println!(rt; "no job: {refusal:?}")?),
     }
 }
 
