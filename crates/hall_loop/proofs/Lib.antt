@@ -14,5 +14,7 @@ pub mod Settlements
 pub mod Turns
 -- what was seen of why nothing will be claimed any more
 pub mod Causes
+-- what the loop has done
+pub mod Deeds
 -- what the loop holds
 pub mod Holding

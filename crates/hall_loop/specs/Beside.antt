@@ -18,7 +18,7 @@ use Rattle.hall_loop.specs.declared.step.Fault.TheVariants as fault
 use Rattle.hall_loop.specs.declared.step.Step.{Step}
 use Rattle.hall_loop.specs.declared.step.Step.TheVariants.{Result as Came, Went, Idle, Over, NoMemory, Lost}
 use Rattle.hive_hall.specs.Legal.{IsHistoryOf}
-use Rattle.hive_hall.specs.Pass.{IsPassOf, job_of, own, seen, slots_of}
+use Rattle.hive_hall.specs.Pass.{IsPassOf, job_of, own, seen, slots_of, took}
 use Rattle.hive_hall.specs.declared.hall.Hall.{Hall}
 use Rattle.hive_hall.specs.declared.pass.Pass.{Pass}
 use Rattle.hive_model.specs.EventRecord.{EventRecord}
@@ -129,6 +129,19 @@ StepSays hall old Lost new = GoesOn old new × IsLost hall new
 -- nothing will be claimed any more: the participants were told to stop, or no event is in flight and none comes
 abbrev pub HasNoWork : Hall → List Item → Type 0
 HasNoWork hall items = is_stopped items ≡ false → IsSomeAnd (state_after hall items) IsOver
+
+-- how much a pass has done: the items that it added, and the results that it took from the queue
+abbrev pub deeds : Pass → ℕ
+deeds p = length (own p) + length (took p)
+
+-- a step that went on has done at least so much
+abbrev pub HasDone : ℕ → Step → Pass → Pass → Type 0
+HasDone count (Came r) p q = Unit {0}
+HasDone count Went p q = count + deeds p ≤ deeds q
+HasDone count Idle p q = Unit {0}
+HasDone count Over p q = Unit {0}
+HasDone count NoMemory p q = Unit {0}
+HasDone count Lost p q = Unit {0}
 
 -- nothing may be claimed now, though an event is in flight or may still come, and nobody was told to stop
 pub record FindsNothing (hall : Hall) (items : List Item) : Type 0 where

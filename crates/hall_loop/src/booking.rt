@@ -1,6 +1,6 @@
 //! Results that wait in the queue are booked.
-ghost use Rattle.std.specs.Prelude.{◌≡◌, IsFalse};
-ghost use Rattle.hall_loop.specs.Beside.{GoesOn, HoldsNothing, IsBeside};
+ghost use Rattle.std.specs.Prelude.{◌≡◌, ◌≤◌, ◌+◌, IsFalse, cond};
+ghost use Rattle.hall_loop.specs.Beside.{GoesOn, HoldsNothing, IsBeside, deeds};
 ghost use Rattle.hive_hall.specs.Pass.{seen};
 
 use crate::hall_loop::HallLoop;
@@ -13,6 +13,7 @@ impl HallLoop {
     pub(crate) fn book_one<R: Wait>(&mut self, rt: &R, hall: &Hall) -> bool
         requires { IsBeside hall.now self.old }
         ensures says { GoesOn self.old self.new }
+        ensures done { cond result 1 0 + deeds self.old.pass ≤ deeds self.new.pass }
         ensures stays { IsFalse result → seen self.new.pass ≡ seen self.old.pass }
         ensures none_held { HoldsNothing hall.now self.old.pass → HoldsNothing hall.now self.new.pass }
         ensures beside { IsBeside hall.now self.new }
@@ -28,6 +29,7 @@ impl HallLoop {
     pub(crate) fn book_waiting<R: Wait>(&mut self, rt: &R, hall: &Hall) -> bool
         requires { IsBeside hall.now self.old }
         ensures says { GoesOn self.old self.new }
+        ensures done { cond result 1 0 + deeds self.old.pass ≤ deeds self.new.pass }
         ensures stays { IsFalse result → seen self.new.pass ≡ seen self.old.pass }
         ensures none_held { HoldsNothing hall.now self.old.pass → HoldsNothing hall.now self.new.pass }
         ensures beside { IsBeside hall.now self.new }

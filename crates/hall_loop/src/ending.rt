@@ -1,6 +1,6 @@
 //! Events end.
-ghost use Rattle.std.specs.Prelude.{IsFalse, IsTrue};
-ghost use Rattle.hall_loop.specs.Beside.{EndsBeside, HoldsNothing, IsBeside};
+ghost use Rattle.std.specs.Prelude.{◌≡◌, ◌≤◌, ◌+◌, IsFalse, IsTrue};
+ghost use Rattle.hall_loop.specs.Beside.{EndsBeside, HoldsNothing, IsBeside, deeds};
 ghost use Rattle.hall_loop.specs.Window.{IsOwnAt};
 
 use crate::hall_loop::HallLoop;
@@ -22,6 +22,8 @@ impl HallLoop {
     pub(crate) fn end_one<R: Wait>(&mut self, rt: &R, hall: &Hall) -> Ended
         requires { IsBeside hall.now self.old }
         ensures says { EndsBeside hall.now self.old result self.new }
+        ensures done { result ≡ Ended.One → 1 + deeds self.old.pass ≤ deeds self.new.pass }
+        ensures grown { deeds self.old.pass ≤ deeds self.new.pass }
         ensures none_held { HoldsNothing hall.now self.old.pass → HoldsNothing hall.now self.new.pass }
         ensures beside { IsBeside hall.now self.new }
     {

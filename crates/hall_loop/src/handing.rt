@@ -14,6 +14,7 @@ impl HallLoop {
     pub(crate) fn take(&mut self, hall: &Hall) -> Option<EventResult>
         requires { IsBeside hall.now self.old }
         ensures says { TakesBeside hall.now self.old result self.new }
+        ensures pass { self.new.pass ≡ self.old.pass }
         ensures none_held { HoldsNothing hall.now self.old.pass → HoldsNothing hall.now self.new.pass }
         ensures beside { IsBeside hall.now self.new }
     {

@@ -1,7 +1,7 @@
 //! The loop performs an algorithm itself, and makes its steps.
-ghost use Rattle.std.specs.Prelude.{◌≡◌, ◌<◌, [], ◌∷◌, IfErr, IfOk};
+ghost use Rattle.std.specs.Prelude.{◌≡◌, ◌<◌, ◌≤◌, [], ◌∷◌, IfErr, IfOk};
 ghost use Rattle.expr_code.specs.Claim.{IsOfJob};
-ghost use Rattle.hall_loop.specs.Beside.{FindsNothing, GoesOn, HasCause, HoldsNothing, HoldsOnly, IsBeside, StepSays};
+ghost use Rattle.hall_loop.specs.Beside.{FindsNothing, GoesOn, HasCause, HasDone, HoldsNothing, HoldsOnly, IsBeside, StepSays, deeds};
 ghost use Rattle.hive_hall.specs.Pass.{job_of, seen};
 
 use crate::ending::Ended;
@@ -29,6 +29,7 @@ impl HallLoop {
         requires { IsBeside hall.now self.old }
         ensures says { StepSays hall.now self.old result self.new }
         ensures cause { HasCause hall.now result self.new }
+        ensures done { HasDone 1 result self.old.pass self.new.pass }
         ensures none_held { HoldsNothing hall.now self.old.pass → HoldsNothing hall.now self.new.pass }
         ensures beside { IsBeside hall.now self.new }
     {
@@ -47,6 +48,7 @@ impl HallLoop {
         requires { IsBeside hall.now self.old }
         ensures says { StepSays hall.now self.old result self.new }
         ensures cause { HasCause hall.now result self.new }
+        ensures done { HasDone 1 result self.old.pass self.new.pass }
         ensures none_held { HoldsNothing hall.now self.old.pass → HoldsNothing hall.now self.new.pass }
         ensures beside { IsBeside hall.now self.new }
     {
@@ -65,6 +67,7 @@ impl HallLoop {
         requires nothing { FindsNothing hall.now (seen self.old.pass) }
         ensures says { StepSays hall.now self.old result self.new }
         ensures cause { HasCause hall.now result self.new }
+        ensures done { HasDone 1 result self.old.pass self.new.pass }
         ensures none_held { HoldsNothing hall.now self.old.pass → HoldsNothing hall.now self.new.pass }
         ensures beside { IsBeside hall.now self.new }
     {
@@ -88,6 +91,7 @@ impl HallLoop {
         requires of_job { IsOfJob (job_of hall.now) work }
         ensures says { StepSays hall.now self.old result self.new }
         ensures cause { HasCause hall.now result self.new }
+        ensures done { HasDone 0 result self.old.pass self.new.pass }
         ensures none_held { HoldsOnly hall.now self.old.pass (work ∷ [])
             → HoldsNothing hall.now self.new.pass }
         ensures beside { IsBeside hall.now self.new }
@@ -109,6 +113,7 @@ impl HallLoop {
         requires beside { IsBeside hall.now self.old }
         requires of_job { IsOfJob (job_of hall.now) done.claim }
         ensures says { GoesOn self.old self.new }
+        ensures done { deeds self.old.pass ≤ deeds self.new.pass }
         ensures none_held { HoldsOnly hall.now self.old.pass (done.claim ∷ [])
             → HoldsNothing hall.now self.new.pass }
         ensures beside { IsBeside hall.now self.new }

@@ -28,7 +28,7 @@ use Rattle.hive_pump.proofs.Courses.{broken-shown, course-is, given-shown, prefi
 use Rattle.hive_pump.proofs.Going.{rest-next, shown-next}
 use Rattle.hive_pump.proofs.Pumping.{longer, sent-by}
 use Rattle.hive_pump.proofs.Shown.{Next, next-of, shows}
-use Rattle.hive_pump.specs.Beside.{GoesOnTo, HasCauseBeside, HasRunOut, Parts, PartsFrom, RestsBeside, RunsOutBeside, StepBesideSays, course_beside}
+use Rattle.hive_pump.specs.Beside.{GoesOnTo, HasCauseBeside, HasDoneBeside, HasRunOut, Parts, PartsFrom, RestsBeside, RunsOutBeside, StepBesideSays, course_beside}
 use Rattle.hive_pump.specs.Course.{Course, HasStopped, IsShown, IsUnderWay, PutsAs, WrittenBy, moved_on, reports_left, text_so_far, with_record}
 use Rattle.hive_pump.specs.Going.{IsLoopOf, course_of}
 use Rattle.hive_pump.specs.Pumped.{IsPumped}
@@ -355,6 +355,14 @@ put-cause got faults admits text sink sink_now hall new NoMemory h = tt
 put-cause got faults admits text sink sink_now hall new Idle h = absurd h
 put-cause got faults admits text sink sink_now hall new Over h = absurd h
 put-cause got faults admits text sink sink_now hall new Lost h = absurd h
+
+pub put-done : (old new : HallLoop) (step : Step) → new.handed ≡ old.handed + 1 → HasDoneBeside step old new
+put-done old new Went h = inl (omega (arith, h))
+put-done old new Broken h = tt
+put-done old new NoMemory h = tt
+put-done old new Idle h = tt
+put-done old new Over h = tt
+put-done old new Lost h = tt
 
 -- nothing will be claimed any more, so the run may end in any way
 pub run-out : (hall : Hall) (new : HallLoop) (ended : Ending) → HasNoWork hall (seen new.pass) →

@@ -1,7 +1,7 @@
 -- A run beside workers. What is true of its loop is said by the crate of that loop; here stands how the run's course goes on,
 -- step by step, and how it stops.
-use Rattle.std.specs.Prelude.{◌≡◌, ◌⊎◌, ℕ, Bool, List, [], Option}
-use Rattle.hall_loop.specs.Beside.{FindsNothing, HasNoWork, IsBeside, IsLost, given_of}
+use Rattle.std.specs.Prelude.{◌≡◌, ◌⊎◌, ℕ, ◌+◌, ◌<◌, ◌≤◌, Bool, List, [], Option}
+use Rattle.hall_loop.specs.Beside.{FindsNothing, HasNoWork, IsBeside, IsLost, deeds, given_of}
 use Rattle.hall_loop.specs.declared.hall_loop.HallLoop.{HallLoop}
 use Rattle.hive_hall.specs.Pass.{job_of, seen}
 use Rattle.hive_hall.specs.declared.hall.Hall.{Hall}
@@ -55,6 +55,15 @@ HasCauseBeside hall new Over = HasNoWork hall (seen new.pass)
 HasCauseBeside hall new Broken = Unit {0}
 HasCauseBeside hall new NoMemory = Unit {0}
 HasCauseBeside hall new Lost = Unit {0}
+
+-- a step that went on handed a report out, or did something for the events
+abbrev pub HasDoneBeside : Step → HallLoop → HallLoop → Type 0
+HasDoneBeside Went old new = (old.handed < new.handed) ⊎ (1 + deeds old.pass ≤ deeds new.pass)
+HasDoneBeside Idle old new = Unit {0}
+HasDoneBeside Over old new = Unit {0}
+HasDoneBeside Broken old new = Unit {0}
+HasDoneBeside NoMemory old new = Unit {0}
+HasDoneBeside Lost old new = Unit {0}
 
 -- the run went on until nothing will be claimed any more, unless memory ran out or the loop lost track
 abbrev pub HasRunOut : Hall → HallLoop → Parted → Type 0

@@ -16,6 +16,7 @@ ghost use Rattle.hive_model.specs.declared.limits.TheConstants.{MOST_SLOTS};
 ghost use Rattle.hive_pump.specs.Beside.{
   DrainBesideSays,
   HasCauseBeside,
+  HasDoneBeside,
   HasRunOut,
   IsOpeningBeside,
   Parts,
@@ -362,6 +363,7 @@ fn step_beside<R: Wait, K: Sink, G: Gate>(
         sink.old sink.new result }
     ensures beside { IsBeside hall.now run.new.events }
     ensures cause { HasCauseBeside hall.now run.new.events result }
+    ensures done { HasDoneBeside result run.old.events run.new.events }
     ensures input { run.new.input ≡ run.old.input }
 {
     match run.events.turn(rt, alloc, hall, gate) {

@@ -1,4 +1,5 @@
-use Rattle.hive_pump.proofs.Companions.{put-cause, shown-beside}
+use Rattle.std.proofs.Common.{inr}
+use Rattle.hive_pump.proofs.Companions.{put-cause, put-done, shown-beside}
 use Rattle.hive_pump.proofs.beside.step_beside.Goals as goal
 
 pub returns-in-Result-clause-says : goal.returns-in-Result-clause-says
@@ -11,3 +12,9 @@ pub returns-in-Result-clause-cause : goal.returns-in-Result-clause-cause
 returns-in-Result-clause-cause g c =
     put-cause g.K.Sink.got g.K.Sink.faults g.K.Sink.admits _ c.args.sink.now c.put.new.sink c.args.hall.now c.turn.new.self
     c.put.result c.put.ensures
+
+pub returns-in-Result-clause-done : goal.returns-in-Result-clause-done
+returns-in-Result-clause-done g c = put-done c.args.run.now.events c.turn.new.self c.put.result c.in-Result.ensures.says.handed
+
+pub returns-in-Went-clause-done : goal.returns-in-Went-clause-done
+returns-in-Went-clause-done g c = inr c.in-Went.ensures.done

@@ -1,6 +1,7 @@
 use Rattle.std.proofs.Common.{refl}
 use Rattle.hall_loop.proofs.Steps.{book-kept}
 use Rattle.hive_hall.specs.declared.answers.Book.TheVariants as book
+use Rattle.hall_loop.proofs.Deeds.{book-done}
 use Rattle.hall_loop.proofs.Holding.{book-holds}
 use Rattle.hall_loop.proofs.hall_loop.HallLoop.book_one.Goals as goal
 
@@ -49,3 +50,15 @@ pub returns-in-Empty-clause-none_held : goal.returns-in-Empty-clause-none_held
 returns-in-Empty-clause-none_held g c it =
     book-holds c.args.hall.now c.args.self.now.pass c.book.new.pass c.requires.pass c.in-Empty.ensures.pass book.Empty
     c.in-Empty.ensures.says it
+
+pub returns-in-Booked-clause-done : goal.returns-in-Booked-clause-done
+returns-in-Booked-clause-done g c =
+    book-done c.args.self.now.pass c.book.new.pass c.args.hall.now book.Booked c.in-Booked.ensures.says
+
+pub returns-in-NotOutstanding-clause-done : goal.returns-in-NotOutstanding-clause-done
+returns-in-NotOutstanding-clause-done g c =
+    book-done c.args.self.now.pass c.book.new.pass c.args.hall.now (book.NotOutstanding c.in-NotOutstanding._done) c.in-NotOutstanding.ensures.says
+
+pub returns-in-Empty-clause-done : goal.returns-in-Empty-clause-done
+returns-in-Empty-clause-done g c =
+    book-done c.args.self.now.pass c.book.new.pass c.args.hall.now book.Empty c.in-Empty.ensures.says

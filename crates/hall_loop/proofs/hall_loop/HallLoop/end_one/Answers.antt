@@ -4,6 +4,7 @@ use Rattle.hive_model.specs.declared.decision.EventStatus.{EventStatus}
 use Rattle.report_text.specs.Counted.{IsCounted}
 use Rattle.hall_loop.proofs.Retirements.{is-own, keeps-astray, keeps-ended, same-ended, window-ended, within-waiting}
 use Rattle.hall_loop.proofs.Steps.{retire-kept}
+use Rattle.hall_loop.proofs.Deeds.{call-grows, retire-done}
 use Rattle.hall_loop.proofs.Holding.{retire-holds}
 use Rattle.hall_loop.proofs.hall_loop.HallLoop.end_one.Goals as goal
 
@@ -72,3 +73,20 @@ pub returns-clause-none_held : goal.returns-clause-none_held
 returns-clause-none_held g c it =
     retire-holds c.args.hall.now c.args.self.now.pass c.retire.new.pass c.requires.pass c.retire.ensures.pass
     c.retire.result c.retire.ensures.call it
+
+pub returns-clause-done : goal.returns-clause-done
+returns-clause-done g c one =
+    retire-done c.args.self.now.pass c.retire.new.pass c.args.hall.now c.in-Some.retired c.in-Some.ensures.call
+    c.retire.ensures.queue.1
+
+pub returns-clause-grown : goal.returns-clause-grown
+returns-clause-grown g c =
+    call-grows c.args.self.now.pass c.retire.new.pass c.retire.ensures.call c.retire.ensures.queue.1
+
+pub returns-in_default-clause-grown : goal.returns-in_default-clause-grown
+returns-in_default-clause-grown g c =
+    call-grows c.args.self.now.pass c.retire.new.pass c.retire.ensures.call c.retire.ensures.queue.1
+
+pub returns-then-not-is_own-clause-grown : goal.returns-then-not-is_own-clause-grown
+returns-then-not-is_own-clause-grown g c =
+    call-grows c.args.self.now.pass c.retire.new.pass c.retire.ensures.call c.retire.ensures.queue.1

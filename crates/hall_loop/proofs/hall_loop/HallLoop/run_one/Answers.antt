@@ -3,6 +3,7 @@ use Rattle.hall_loop.proofs.Causes.{idle-seen, over-seen, stopped-seen}
 use Rattle.hall_loop.proofs.Steps.{claim-kept}
 use Rattle.hall_loop.proofs.Turns.{says-on}
 use Rattle.hive_hall.specs.declared.answers.Ask.TheVariants.{Told}
+use Rattle.hall_loop.proofs.Deeds.{call-grows, claim-done, done-before, grown-before}
 use Rattle.hall_loop.proofs.Holding.{calm-holds, claim-holds, is_job, stopped-holds}
 use Rattle.hall_loop.proofs.hall_loop.HallLoop.run_one.Goals as goal
 
@@ -108,3 +109,15 @@ pub returns-in-Stopped-clause-none_held : goal.returns-in-Stopped-clause-none_he
 returns-in-Stopped-clause-none_held g c it =
     stopped-holds c.args.hall.now c.args.self.now.pass c.claim.new.pass c.requires.pass c.in-Stopped.ensures.pass
     c.in-Stopped.ensures.call it
+
+pub returns-in-Told-Job-clause-done : goal.returns-in-Told-Job-clause-done
+returns-in-Told-Job-clause-done g c =
+    done-before c.run_claim.result c.args.self.now.pass c.claim.new.pass c.run_claim.new.self.pass
+    (claim-done c.args.self.now.pass c.claim.new.pass c.args.hall.now _ c.in-Told-Job.work c.in-Told-Job.field-0-is
+    c.in-Told-Job.ensures.call c.in-Told-Job.ensures.queue.1) c.run_claim.ensures.done
+
+pub returns-in-Told-Idle-clause-done : goal.returns-in-Told-Idle-clause-done
+returns-in-Told-Idle-clause-done g c =
+    grown-before c.wait.result c.args.self.now.pass c.claim.new.pass c.wait.new.self.pass
+    (call-grows c.args.self.now.pass c.claim.new.pass c.in-Told-Idle.ensures.call c.in-Told-Idle.ensures.queue.1)
+    c.wait.ensures.done
